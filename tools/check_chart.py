@@ -4,7 +4,8 @@
 Of each drawing: no line meets a symbol but where it enters or leaves it, no horizontal line crosses a vertical one, no two
 vertical lines lie over one another, no two symbols share a height, all is inside the drawing, and no cut goes through a
 symbol, a word or a comment. Each line, followed from symbol to symbol by the words at the ways of its test, leads where the file
-says (`chart_walk.py`). Of each page: each statement and each comment is there once, a statement's caption has the
+says (`chart_walk.py`). Of each page: each row of its table of declarations has the name, the type, the default or value and the comments
+of its declaration (`chart_table.py`); each statement and each comment is there once, a statement's caption has the
 characters of its lines, each link leads to a place of the page, each id stands once, and the drawings are well-formed XML; there
 is no script, and nothing that is fetched; there is one verdict, and no element, attribute or comment that could hide it; what the
 verdict of a refused plan links to is marked, and of another nothing is. Pages that are changed so that a word, a line or the
@@ -18,6 +19,7 @@ import sys
 import tempfile
 import xml.etree.ElementTree as ET
 
+import chart_table
 import chart_walk
 
 # Each change of the words or lines of its page makes a line lead elsewhere.
@@ -37,6 +39,15 @@ ELEMENTS = set("""a b body br code div g h1 h2 h3 head header html i li main met
 tbody td text th thead title tr tspan ul""".split())
 ATTRIBUTES = set("""aria-hidden aria-label aria-labelledby charset class colspan content d height href id lang name role rx scope
 viewBox width x y""".split())
+
+# Each change of the cells of its page makes a row wrong.
+TABLE_PLAN = b"""<PAP><VARIABLES><INPUTS><!-- an --> <!-- amount --><INPUT name="x" type="int" default="1"/>
+<INPUT name="y" type="BigDecimal" default="BigDecimal.valueOf(150, 2)"/><!-- a &lt; &amp; -->
+<INPUT name="z" type="double" default="1.5"/></INPUTS><OUTPUTS><OUTPUT name="o" type="int"/></OUTPUTS></VARIABLES>
+<INTERNALS><INTERNAL name="a" type="long"/></INTERNALS>
+<CONSTANTS><CONSTANT name="C" type="BigDecimal" value="new BigDecimal(&quot;0.10&quot;)"/><!-- rates -->
+<CONSTANT name="T" type="BigDecimal[]" value="{BigDecimal.ZERO, BigDecimal.valueOf(-0.25), new BigDecimal(7)}"/></CONSTANTS>
+<METHODS><MAIN><EVAL exec="o = 1"/></MAIN></METHODS></PAP>"""
 
 LETTERS = "ABCDEFGHIJKLMNOPQRSTUVWXYZ"
 NUMBER = r"-?\d+"
@@ -75,6 +86,12 @@ class Plan:
             return rng.choice([rng.choice(self.names), "BigDecimal.ZERO", "BigDecimal.valueOf(%d)" % rng.randrange(1000)])
         call = rng.choice(["add", "subtract", "multiply", "max"])
         return "%s.%s(%s)" % (self.term(depth - 1), call, self.term(depth - 1))
+
+    def default(self, kind):
+        rng = self.rng
+        number = {"BigDecimal": "BigDecimal.valueOf(%d, %d)" % (rng.randrange(-999, 999), rng.randrange(4)),
+                  "double": "%d.%d" % (rng.randrange(9), rng.randrange(1, 9))}
+        return ' default="%s"' % number.get(kind, rng.randrange(99)) if rng.random() < 0.6 else ""
 
     def test(self):
         rng = self.rng
@@ -119,7 +136,7 @@ class Plan:
         self.tag("<INPUTS>")
         for name in self.names[:4]:
             kind = rng.choice(["int", "long", "BigDecimal", "double"])
-            self.tag('<INPUT name="%s" type="%s"/>' % (name, kind), 0.5)
+            self.tag('<INPUT name="%s" type="%s"%s/>' % (name, kind, self.default(kind)), 0.5)
         if rng.random() < 0.2:
             self.tag('<INPUT name="%s" type="int"/>' % self.names[0])
         self.tag("</INPUTS>")
@@ -284,6 +301,7 @@ def check_page(plan, status, page):
     for section in re.findall(r'<section class="m.*?</section>', text, re.S):
         parts = [Part(ET.fromstring(svg)) for svg in re.findall(r"<svg role.*?</svg>", section, re.S)]
         faults += check_drawing(parts)
+    faults += chart_table.table_faults(plan.text(), text)
     return faults + chart_walk.line_faults(chart_walk.plan_lines(plan.text()), text)
 
 
@@ -312,7 +330,14 @@ def check_changed_pages(binary, folder):
         found = [bool(chart_walk.line_faults(wanted, changed)) for changed in changed_pages(page)]
         refused, pages = refused + sum(found), pages + max(1, len(found))
     found = [bool(check_verdict(changed)) for changed in with_another_verdict(page)]
-    return refused + sum(found), pages + len(found)
+    refused, pages = refused + sum(found), pages + len(found)
+    page = draw(binary, folder, TABLE_PLAN).stdout.decode("utf-8")
+    if chart_table.table_faults(TABLE_PLAN, page):
+        return refused, pages + 1
+    for changed_pages in (chart_table.with_cells_exchanged, chart_table.with_the_default_above, chart_table.without_a_row):
+        found = [bool(chart_table.table_faults(TABLE_PLAN, changed)) for changed in changed_pages(page)]
+        refused, pages = refused + sum(found), pages + max(1, len(found))
+    return refused, pages
 
 
 def plan_of_inputs(rng):

@@ -1,8 +1,8 @@
 -- The answer on what is read of the files is that on their bytes.
-use Rattle.std.proofs.Common.{ℕ, ◌<◌, List, [], take, inl, inr, sym, subst, arith}
+use Rattle.std.proofs.Common.{◌≡◌, ℕ, ◌<◌, List, [], take, inl, inr, sym, subst, arith}
 use Rattle.std.specs.Prelude.{Option, Some, None, Ok, Err}
 use Rattle.std.proofs.lemmas.List.{take_all}
-use Rattle.outside.specs.Told.{FileMap, IsFileFront}
+use Rattle.outside.specs.Told.{FileMap, IsFileFront, IsToldFront}
 use Rattle.pap_reader.specs.declared.fault.ReadFault.{ReadFault}
 use Rattle.pap_reader.specs.Trees.{ElementTree}
 use Rattle.pap_reader.specs.Elements.{IsElements, IsFault}
@@ -15,9 +15,16 @@ use Rattle.plan_notes.specs.Notes.{HasNotes}
 use Rattle.plain_words.specs.Places.{NamedText}
 use Rattle.plain_words.specs.Refusals.{TellsPlan}
 use Rattle.flowchart_page.specs.Verdicts.{file_or_none, files_with, IsJudged}
+use Rattle.flowchart_methods.specs.declared.site.Site.{Site}
 use Rattle.flowchart_page.specs.Findings.{Finding, accepted, in_order, refused, IsFound}
 use Rattle.flowchart_page.specs.Pages.{ArePlanCaptions, Says, Shows, IsPage}
-use Rattle.author_cli.specs.Words.{chart, chart_within, ranges}
+use Rattle.author_cli.specs.Words.{chart, chart_within, ranges, compared}
+use Rattle.author_cli.specs.Compared.{IsUnreadable, IsCompared}
+use Rattle.author_cli.specs.private.TwoFronts.{AreTwoFronts}
+use Rattle.pap_tree.specs.Flowchart.{Flowchart}
+use Rattle.plan_text.specs.Plans.{IsPlan}
+use Rattle.pap_plan.specs.AcceptanceClauses.{IsUnread}
+use Rattle.plan_answers.specs.Refusals.{HasDetail}
 use Rattle.author_cli.specs.Answers.{Answer, IsChart, IsRanges, file_of, Answers}
 use Rattle.author_cli.proofs.TellsLemmas.{front, begins_ranges, begins_plan}
 
@@ -94,19 +101,19 @@ module _ (n m : ℕ) (more_plan : 1048576 < n) (more_limits : 262144 < m) where
   fault_front : (plan : List ℕ) (fault : ReadFault) → IsFault (take n plan) fault → IsFault plan fault
   fault_front plan fault h = refused_alone plan (refusals.Read fault) h
 
-  captions_front : (plan : List ℕ) (finding : Finding) (captions : List (List ℕ))
-      → ArePlanCaptions (take n plan) finding captions → ArePlanCaptions plan finding captions
-  captions_front plan finding captions (inl h) = inl (h.0, elements_front plan h.0 h.1, h.2)
-  captions_front plan finding captions (inr h) = inr (h.0, fault_front plan h.0 h.1, h.2)
+  captions_front : (plan : List ℕ) (finding : Finding) (site : Site) (captions : List (List ℕ))
+      → ArePlanCaptions (take n plan) finding site captions → ArePlanCaptions plan finding site captions
+  captions_front plan finding site captions (inl h) = inl (h.0, elements_front plan h.0 h.1, h.2, h.3)
+  captions_front plan finding site captions (inr h) = inr (h.0, fault_front plan h.0 h.1, h.2, h.3)
 
-  says_front : (plan : List ℕ) (finding : Finding) (words : Option (List ℕ)) (said : List (List ℕ))
-      → Says (take n plan) finding words said → Says plan finding words said
-  says_front plan (accepted x) None said h = h
-  says_front plan (accepted x) (Some w) said h = h
-  says_front plan in_order None said h = h
-  says_front plan in_order (Some w) said h = h
-  says_front plan (refused r) None said h = h
-  says_front plan (refused r) (Some w) said h = record {
+  says_front : (plan : List ℕ) (finding : Finding) (words : Option (List ℕ)) (site : Site) (said : List ℕ)
+      → Says (take n plan) finding words site said → Says plan finding words site said
+  says_front plan (accepted x) None site said h = h
+  says_front plan (accepted x) (Some w) site said h = h
+  says_front plan in_order None site said h = h
+  says_front plan in_order (Some w) site said h = h
+  says_front plan (refused r) None site said h = h
+  says_front plan (refused r) (Some w) site said h = record {
     line = h.line;
     is_line = record {
       answer = h.is_line.answer;
@@ -116,11 +123,11 @@ module _ (n m : ℕ) (more_plan : 1048576 < n) (more_limits : 262144 < m) where
     is = h.is;
   }
 
-  shown_front : (plan : List ℕ) (finding : Finding) (said : List (List ℕ)) (page : List ℕ)
-      → Shows (take n plan) finding said page → Shows plan finding said page
-  shown_front plan finding said page h = record {
+  shown_front : (plan : List ℕ) (finding : Finding) (site : Site) (said page : List ℕ)
+      → Shows (take n plan) finding site said page → Shows plan finding site said page
+  shown_front plan finding site said page h = record {
     captions = h.captions;
-    are_captions = captions_front plan finding h.captions h.are_captions;
+    are_captions = captions_front plan finding site h.captions h.are_captions;
     whole = h.whole;
   }
 
@@ -129,9 +136,10 @@ module _ (n m : ℕ) (more_plan : 1048576 < n) (more_limits : 262144 < m) where
   page_front plan limits words page h = record {
     finding = h.finding;
     found = found_front plan limits h.finding h.found;
-    said = h.said;
-    says = says_front plan h.finding words h.said h.says;
-    shown = shown_front plan h.finding h.said page h.shown;
+    site = h.site;
+    verdict = h.verdict;
+    says = says_front plan h.finding words h.site h.verdict h.says;
+    shown = shown_front plan h.finding h.site h.verdict page h.shown;
   }
 
   page_alone : (plan : List ℕ) (words : Option (List ℕ)) (page : List ℕ) → IsPage (take n plan) None words page
@@ -139,9 +147,10 @@ module _ (n m : ℕ) (more_plan : 1048576 < n) (more_limits : 262144 < m) where
   page_alone plan words page h = record {
     finding = h.finding;
     found = found_alone plan h.finding h.found;
-    said = h.said;
-    says = says_front plan h.finding words h.said h.says;
-    shown = shown_front plan h.finding h.said page h.shown;
+    site = h.site;
+    verdict = h.verdict;
+    says = says_front plan h.finding words h.site h.verdict h.says;
+    shown = shown_front plan h.finding h.site h.verdict page h.shown;
   }
 
   chart_front : (plan limits : NamedText) (a : Answer) → IsChart (front n plan) (Some (front m limits)) a
@@ -178,7 +187,96 @@ module _ (n m : ℕ) (more_plan : 1048576 < n) (more_limits : 262144 < m) where
     tells = tells_alone plan h.words h.tells;
   })
 
+  -- ---- two plans
+
+  unread_front : (plan : List ℕ) (r : PlanRefusal) → IsUnread (take n plan) r → IsUnread plan r
+  unread_front plan (refusals.Read fault) h = refused_alone plan (refusals.Read fault) h
+  unread_front plan (refusals.Expr spot fault) h = refused_alone plan (refusals.Expr spot fault) h
+  unread_front plan refusals.Memory h = tt
+  unread_front plan (refusals.Types fault) h = absurd h
+  unread_front plan (refusals.Order fault) h = absurd h
+  unread_front plan (refusals.Limits fault) h = absurd h
+  unread_front plan (refusals.LimitName name) h = absurd h
+  unread_front plan (refusals.LimitKind name) h = absurd h
+  unread_front plan (refusals.Bind name) h = absurd h
+  unread_front plan (refusals.Range fault) h = absurd h
+
+  detail_front : (plan : List ℕ) (r : PlanRefusal) (detail : List ℕ) → IsUnread (take n plan) r
+      → HasDetail (take n plan) r detail → HasDetail plan r detail
+  detail_front plan (refusals.Read fault) detail u h = h
+  detail_front plan (refusals.Expr spot fault) detail u h = h
+  detail_front plan refusals.Memory detail u h = absurd h
+  detail_front plan (refusals.Types fault) detail u h = absurd u
+  detail_front plan (refusals.Order fault) detail u h = absurd u
+  detail_front plan (refusals.Limits fault) detail u h = absurd u
+  detail_front plan (refusals.LimitName name) detail u h = absurd u
+  detail_front plan (refusals.LimitKind name) detail u h = absurd u
+  detail_front plan (refusals.Bind name) detail u h = absurd u
+  detail_front plan (refusals.Range fault) detail u h = absurd u
+
+  plan_front : (bytes : List ℕ) (f : Flowchart) → IsPlan (take n bytes) f → IsPlan bytes f
+  plan_front bytes f h = subst (λ b. IsPlan b f) (whole 1048576 n bytes more_plan h.read.short) h
+
+  unreadable_front : (plan : NamedText) (text : List ℕ) (reason : Option (List ℕ))
+      → IsUnreadable (front n plan) text reason → IsUnreadable plan text reason
+  unreadable_front plan text reason h = record {
+    refusal = h.refusal;
+    unread = unread_front plan.bytes h.refusal h.unread;
+    detail = h.detail;
+    has = detail_front plan.bytes h.refusal h.detail h.unread h.has;
+    written = h.written;
+    words = h.words;
+    said = h.said;
+    tells = tells_alone plan h.words h.tells;
+  }
+
+  compared_front : (old new : NamedText) (text : List ℕ) (reason : Option (List ℕ))
+      → IsCompared (front n old) (front n new) text reason → IsCompared old new text reason
+  compared_front old new text reason (inl h) = inl (record {
+    old_plan = h.old_plan;
+    new_plan = h.new_plan;
+    old_read = plan_front old.bytes h.old_plan h.old_read;
+    new_read = plan_front new.bytes h.new_plan h.new_read;
+    comparison = h.comparison;
+    is = h.is;
+    written = h.written;
+    said = h.said;
+  })
+  compared_front old new text reason (inr (inl h)) = inr (inl (unreadable_front old text reason h))
+  compared_front old new text reason (inr (inr h)) = inr (inr (unreadable_front new text reason h))
+
 -- ---- of files that are there
+
+-- what two calls read of files that tell this; what the files tell behind each call says what they told before it
+pub two_fronts : {first first' second second' : Option FileMap} (files : FileMap) (old new bytes bytes' : List ℕ)
+    → first' ≡ first → IsToldFront first old 1048577 bytes → first ≡ Some files
+    → second' ≡ second → IsToldFront second new 1048577 bytes' → second ≡ Some files
+    → AreTwoFronts files old new bytes bytes'
+two_fronts files old new bytes bytes' same read told same' read' told' =
+    let p = front_there (files old) 1048577 bytes (subst (λ t. IsToldFront t old 1048577 bytes) told read) in
+    let q = front_there (files new) 1048577 bytes' (subst (λ t. IsToldFront t new 1048577 bytes') told' read') in
+    record {
+      old_bytes = p.0;
+      new_bytes = q.0;
+      old_there = p.1;
+      new_there = q.1;
+      old_read = p.2;
+      new_read = q.2;
+    }
+
+pub compared_of : (files : FileMap) (old new bytes bytes' : List ℕ) (a : Answer)
+    → AreTwoFronts files old new bytes bytes'
+    → IsCompared (file_of old bytes) (file_of new bytes') a.text a.reason → Answers (compared old new) files a
+compared_of files old new bytes bytes' a read h = record {
+  old_bytes = read.old_bytes;
+  new_bytes = read.new_bytes;
+  old_there = read.old_there;
+  new_there = read.new_there;
+  is = compared_front 1048577 262145 (omega arith) (omega arith)
+      (file_of old read.old_bytes) (file_of new read.new_bytes) a.text a.reason
+      (subst (λ b. IsCompared (file_of old b) (file_of new (take 1048577 read.new_bytes)) a.text a.reason)
+      read.old_read (subst (λ b. IsCompared (file_of old bytes) (file_of new b) a.text a.reason) read.new_read h));
+}
 
 pub chart_of : (files : FileMap) (plan bytes : List ℕ) (a : Answer) → IsFileFront files plan 1048577 bytes
     → IsChart (file_of plan bytes) None a → Answers (chart plan) files a

@@ -1,5 +1,6 @@
 mod WordLemmas
 mod UnreadLemmas
+mod ComparedLemmas
 mod TellsLemmas
 mod FrontLemmas
 mod LeavesLemmas

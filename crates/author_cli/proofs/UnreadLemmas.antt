@@ -1,5 +1,5 @@
 -- The answers on a plan from what the calls below promise.
-use Rattle.std.proofs.Common.{◌≡◌, ◌≤◌, ℕ, length, arith, List, Option, Some, None, inl, sym, ap, ◌∙◌, subst}
+use Rattle.std.proofs.Common.{◌≡◌, ◌≤◌, ℕ, length, arith, List, [], Option, Some, None, inl, sym, ap, ◌∙◌, subst}
 use Rattle.std.specs.Prelude.{option_map}
 use Rattle.std.proofs.lemmas.List.{length-map}
 use Rattle.pap_tree.specs.Limits.{most_inputs}
@@ -8,7 +8,11 @@ use Rattle.pap_reader.specs.declared.elements.Elements.{Elements}
 use Rattle.pap_reader.specs.Trees.{tree_of, raw_declaration_of}
 use Rattle.pap_reader.specs.Elements.{IsElements, IsFault}
 use Rattle.pap_reader.proofs.Laws.{small_tree}
+use Rattle.pap_plan.specs.declared.refusal.PlanRefusal.{PlanRefusal}
 use Rattle.pap_plan.specs.declared.refusal.PlanRefusal.TheVariants as refusals
+use Rattle.pap_plan.specs.Acceptance.{IsRefused}
+use Rattle.pap_plan.specs.AcceptanceClauses as clauses
+use Rattle.plan_answers.specs.Refusals.{HasDetail}
 use Rattle.plan_answers.specs.Answers.{Answer as Written, IsRefusal}
 use Rattle.plan_answers.specs.Lines.{refusal_line}
 use Rattle.limits_file.specs.Limits.{longest_limits}
@@ -22,6 +26,7 @@ use Rattle.plain_words.specs.Refusals.{BeginsAtRefusal}
 use Rattle.flowchart_page.specs.Pages.{IsPage}
 use Rattle.flowchart_page.specs.Verdicts.{file_or_none, IsJudged}
 use Rattle.author_cli.specs.Answers.{Answer, IsChart, IsUnread, IsRanges}
+use Rattle.author_cli.specs.Compared.{IsUnreadable}
 
 pub charted : (plan : TextFile) (limits : Option TextFile) (answer : Answer)
     → IsPage plan.bytes.now (option_map (λ f. f.bytes.now) limits) answer.reason answer.text
@@ -48,6 +53,41 @@ unread plan file fault written answer words none has refused same reason line be
     line = line;
     begins = subst (λ f. BeginsAtRefusal (record { plan = named_text plan; ranges = f }) (refusals.Read fault) words)
         none begins;
+  };
+}
+
+-- a refusal of a text that isn't a plan's, whatever its range file
+refused_unread : (plan : List ℕ) (r : PlanRefusal) (detail : List ℕ) → clauses.IsUnread plan r → HasDetail plan r detail
+    → IsRefused plan [] r
+refused_unread plan (refusals.Read fault) detail u h = u
+refused_unread plan (refusals.Expr spot fault) detail u h = u
+refused_unread plan refusals.Memory detail u h = absurd h
+refused_unread plan (refusals.Types fault) detail u h = absurd u
+refused_unread plan (refusals.Order fault) detail u h = absurd u
+refused_unread plan (refusals.Limits fault) detail u h = absurd u
+refused_unread plan (refusals.LimitName name) detail u h = absurd u
+refused_unread plan (refusals.LimitKind name) detail u h = absurd u
+refused_unread plan (refusals.Bind name) detail u h = absurd u
+refused_unread plan (refusals.Range fault) detail u h = absurd u
+
+-- the line of that refusal and its words
+pub unreadable : (plan file : TextFile) (r : PlanRefusal) (written : Written) (text : List ℕ) (reason : Option (List ℕ))
+    (words : List ℕ) → named_text file ≡ file_or_none None → clauses.IsUnread plan.bytes.now r
+    → IsRefusal plan.bytes.now r written → text ≡ written.text → reason ≡ Some words
+    → IsOneLine words → BeginsAtRefusal (files_of plan file) r words → IsUnreadable (named_text plan) text reason
+unreadable plan file r written text reason words none has refused same said line begins = record {
+  refusal = r;
+  unread = has;
+  detail = refused.detail;
+  has = refused.has;
+  written = same ∙ ap (λ (a : Written). a.text) refused.is;
+  words = words;
+  said = said;
+  tells = record {
+    refusal = r;
+    refused = refused_unread plan.bytes.now r refused.detail has refused.has;
+    line = line;
+    begins = subst (λ f. BeginsAtRefusal (record { plan = named_text plan; ranges = f }) r words) none begins;
   };
 }
 

@@ -14,9 +14,10 @@ use Rattle.plan_answers.specs.Refusals.{read_detail}
 use Rattle.range_draft.specs.Draft.{IsDraft}
 use Rattle.flowchart_page.specs.Pages.{IsPage}
 use Rattle.flowchart_page.specs.Verdicts.{files_with, IsJudged}
-use Rattle.author_cli.specs.Words.{Form, chart, chart_within, ranges}
+use Rattle.author_cli.specs.Words.{Form, chart, chart_within, ranges, compared}
+use Rattle.author_cli.specs.Compared.{IsCompared}
 
--- what is written, and why the plan is refused, in words, where it is
+-- what is written, and why a plan is refused, or that two differ, in words, where that is so
 pub record Answer : Type 0 where
   pub text : List ℕ
   pub reason : Option (List ℕ)
@@ -76,8 +77,17 @@ pub record ChartsFiles (plan limits : List ℕ) (files : FileMap) (answer : Answ
   pub limits_there : files limits ≡ Some limits_bytes
   pub is : IsChart (file_of plan plan_bytes) (Some (file_of limits limits_bytes)) answer
 
+-- both files are there, and this is the answer on their comparison
+pub record ComparesFiles (old new : List ℕ) (files : FileMap) (answer : Answer) : Type 0 where
+  pub old_bytes : List ℕ
+  pub new_bytes : List ℕ
+  pub old_there : files old ≡ Some old_bytes
+  pub new_there : files new ≡ Some new_bytes
+  pub is : IsCompared (file_of old old_bytes) (file_of new new_bytes) answer.text answer.reason
+
 -- the answer to words of this form
 abbrev pub Answers : Form → FileMap → Answer → Type 0
 Answers (chart plan) files answer = AnswersFile (λ file page. IsChart file None page) plan files answer
 Answers (chart_within plan limits) files answer = ChartsFiles plan limits files answer
 Answers (ranges plan) files answer = AnswersFile IsRanges plan files answer
+Answers (compared old new) files answer = ComparesFiles old new files answer

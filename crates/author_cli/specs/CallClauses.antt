@@ -6,20 +6,21 @@ use Rattle.outside.specs.Causes.{Still}
 use Rattle.outside.specs.Told.{FileMap, Appends, AppendsShort}
 use Rattle.plan_answers.specs.Fronts.{IsMissing}
 use Rattle.author_cli.specs.declared.stop.Stop.TheVariants as stops
-use Rattle.author_cli.specs.Words.{Form, chart, chart_within, ranges}
+use Rattle.author_cli.specs.Words.{Form, chart, chart_within, ranges, compared}
 use Rattle.author_cli.specs.Answers.{Answer, Answers}
 use Rattle.author_cli.specs.Ends.{Ended, words_of}
 use Rattle.author_cli.specs.Outside.{Outside}
 
--- the name at which the files failed: the plan's, or the range file's where the plan is there
+-- the name at which the files failed: the first one, or the second one where the first file is there
 abbrev pub Lacks : Form → Option FileMap → Option (List ℕ) → Type 0
 Lacks (chart plan) told failed = failed ≡ Some plan
 Lacks (chart_within plan limits) told failed = IsMissing told plan limits failed
 Lacks (ranges plan) told failed = failed ≡ Some plan
+Lacks (compared old new) told failed = IsMissing told old new failed
 
 -- ---- what each end leaves; of the text where the files tell what they hold, of the rest always
 
--- the whole answer was written, and these words say why the plan is refused, where it is
+-- the whole answer was written, and these words say why a plan is refused, or that two differ, where that is so
 pub record IsWholeAnswer (form : Form) (before after : Outside) (words : Option (List ℕ)) : Type 0 where
   pub text : List ℕ
   pub written : Appends before.written after.written text
@@ -54,7 +55,8 @@ Leaves form before after (Err stops.Memory) = IsUnwritten before after
 
 -- ---- the headline
 
--- the files are there, the answer on them was written whole, and it is told why the plan is refused, where it is
+-- the files are there, the answer on them was written whole, and it is told why a plan is refused, or that two differ,
+-- where that is so
 pub record IsAnswered (form : Form) (files : FileMap) (written : List ℕ) (after : Outside) (ended : Ended)
     : Type 0 where
   pub answer : Answer

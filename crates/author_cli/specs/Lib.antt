@@ -1,5 +1,6 @@
 pub mod Answers
 pub mod CallClauses
+pub mod Compared
 pub mod Ends
 pub mod Laws
 pub mod Outside

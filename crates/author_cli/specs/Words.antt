@@ -14,12 +14,15 @@ pub data Form : Type 0 where
   chart_within : List ℕ → List ℕ → Form
   -- ranges PLAN
   ranges : List ℕ → Form
+  -- text compare OLD NEW
+  compared : List ℕ → List ℕ → Form
 
 -- the words have this form
 abbrev pub HasForm : List (List ℕ) → Form → Type 0
 HasForm words (chart plan) = words ≡ codes "chart" ∷ plan ∷ []
 HasForm words (chart_within plan limits) = words ≡ codes "chart" ∷ plan ∷ limits ∷ []
 HasForm words (ranges plan) = words ≡ codes "ranges" ∷ plan ∷ []
+HasForm words (compared old new) = words ≡ codes "text" ∷ codes "compare" ∷ old ∷ new ∷ []
 
 -- the words have no form
 abbrev pub IsBad : List (List ℕ) → Type 0

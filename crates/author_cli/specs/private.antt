@@ -1,2 +1,3 @@
 pub mod AnswerViews
+pub mod TwoFronts
 pub mod WordViews

@@ -3,13 +3,14 @@ ghost use Rattle.std.specs.Prelude.{◌≡◌, IfOk, None, option_map};
 ghost use Rattle.outside.specs.Causes.{Caused};
 ghost use Rattle.pap_reader.specs.Elements.{IsFault};
 ghost use Rattle.plain_words.specs.Places.{named_text};
-ghost use Rattle.author_cli.specs.Words.{chart, chart_within, ranges};
+ghost use Rattle.author_cli.specs.Words.{chart, chart_within, ranges, compared};
 ghost use Rattle.author_cli.specs.private.WordViews.{form_of};
 ghost use Rattle.author_cli.specs.Answers.{IsChart, IsUnread, IsRanges};
 ghost use Rattle.author_cli.specs.private.AnswerViews.{answer_of, Makes};
 ghost use Rattle.author_cli.specs.Outside.{outside_of};
 ghost use Rattle.author_cli.specs.CallClauses.{Leaves};
 
+use crate::compared::{compare_plans, read_two};
 use crate::stop::Stop;
 use crate::words::Request;
 use flowchart_page::{Chart, draw_chart};
@@ -22,14 +23,14 @@ use plan_notes::read_notes;
 use range_draft::draft_ranges;
 use std::alloc::{AllocError, Global};
 
-/// What is written, and why the plan is refused, where it is.
+/// What is written, and why a plan is refused, or that two differ, where that is so.
 #[derive(Drop)]
 pub(crate) struct Answer {
     pub text: Vec<u8>,
     pub reason: Option<String>,
 }
 
-/// Writes the answer on a request. `Ok` says why the plan is refused, where it is.
+/// Writes the answer on a request. `Ok` says why a plan is refused, or that two differ, where that is so.
 pub(crate) fn write_answer<F: Files, W: Sink>(
     alloc: Global,
     request: Request<'_>,
@@ -65,6 +66,7 @@ fn make_answer<F: Files>(
         Request::Chart { plan } => answer_chart(alloc, plan, files),
         Request::ChartWithin { plan, limits } => answer_chart_within(alloc, plan, limits, files),
         Request::Ranges { plan } => answer_ranges(alloc, plan, files),
+        Request::Compare { old, new } => answer_compared(alloc, old, new, files),
     }
 }
 
@@ -120,6 +122,30 @@ fn answer_ranges<F: Files>(alloc: Global, plan: &str, files: &mut F) -> Result<A
         bytes: &bytes,
     };
     Ok(ranges_of(alloc, plan)?)
+}
+
+/// The comparison of two plans as a text.
+fn answer_compared<F: Files>(
+    alloc: Global,
+    old: &str,
+    new: &str,
+    files: &mut F,
+) -> Result<Answer, FileAnswer>
+    ensures made { Makes (compared old.now new.now)
+        (F.told files.old) (F.failed files.old) (F.failed files.new) result }
+    ensures same { F.told files.new ≡ F.told files.old }
+    ensures cause { Caused FileAnswer.Failed (F.faults files.old) (F.faults files.new) result }
+{
+    let (old_bytes, new_bytes) = read_two(alloc, old, new, files)?;
+    let old = TextFile {
+        name: old,
+        bytes: &old_bytes,
+    };
+    let new = TextFile {
+        name: new,
+        bytes: &new_bytes,
+    };
+    Ok(compare_plans(alloc, old, new)?)
 }
 
 /// The page of a plan's bytes, with those of a range file or without.

@@ -16,9 +16,10 @@ use std::alloc::Global;
 /// Does all that the program does: carries out the words over the files and the sink.
 ///
 /// The forms of the words are `chart PLAN` and `chart PLAN LIMITS`, which write the flowchart of the file PLAN as one
-/// page of HTML, without a range file or with that of the file LIMITS, and `ranges PLAN`, which writes a range file to
-/// begin with. All other words are [`Stop::Words`]. `Ok` means that all was written: it has why the plan is refused, in
-/// plain words in one line, and nothing where it isn't.
+/// page of HTML, without a range file or with that of the file LIMITS, `ranges PLAN`, which writes a range file to
+/// begin with, and `text compare OLD NEW`, which writes what the flowchart of the file NEW changed against that of OLD.
+/// All other words are [`Stop::Words`]. `Ok` means that all was written: it has why a plan is refused, in plain words in
+/// one line, or that two flowcharts differ, and nothing where neither is so.
 pub fn pap_author<F: Files, W: Sink>(
     alloc: Global,
     words: &[String],

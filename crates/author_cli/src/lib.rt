@@ -3,6 +3,7 @@
 
 mod answer;
 mod call;
+mod compared;
 mod stop;
 mod words;
 

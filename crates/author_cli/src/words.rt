@@ -12,6 +12,8 @@ pub(crate) enum Request<'a> {
     ChartWithin { plan: &'a str, limits: &'a str },
     /// `ranges PLAN`
     Ranges { plan: &'a str },
+    /// `text compare OLD NEW`
+    Compare { old: &'a str, new: &'a str },
 }
 
 /// What the words ask for. `None` where they have no form.
@@ -22,6 +24,12 @@ pub(crate) fn read_words(words: &[String]) -> Option<Request<'_>>
     match words {
         [command, plan] => read_two(command.as_str(), plan.as_str()),
         [command, plan, limits] => read_three(command.as_str(), plan.as_str(), limits.as_str()),
+        [form, command, old, new] => read_four(
+            form.as_str(),
+            command.as_str(),
+            old.as_str(),
+            new.as_str(),
+        ),
         _ => None,
     }
 }
@@ -45,6 +53,17 @@ fn read_three<'a>(command: &str, plan: &'a str, limits: &'a str) -> Option<Reque
 {
     match command {
         "chart" => Some(Request::ChartWithin { plan, limits }),
+        _ => None,
+    }
+}
+
+/// What a form, a command and two names ask for.
+fn read_four<'a>(form: &str, command: &str, old: &'a str, new: &'a str) -> Option<Request<'a>>
+    ensures { MatchOption result (IsBad (form.now ∷ command.now ∷ old.now ∷ new.now ∷ []))
+        (λ request. HasForm (form.now ∷ command.now ∷ old.now ∷ new.now ∷ []) (form_of request)) }
+{
+    match (form, command) {
+        ("text", "compare") => Some(Request::Compare { old, new }),
         _ => None,
     }
 }

@@ -1,52 +1,47 @@
 -- What is said of a plan, from its parts.
-use Rattle.std.proofs.Common.{◌≡◌, ℕ, ◌-◌, Bool, true, false, not, Result, Ok, Err, List, [], ◌∷◌, ◌++◌, length, codes, refl, sym, ap, ◌∙◌, append_assoc, length-append, arith}
-use Rattle.std.specs.Prelude.{OnOk, take}
+use Rattle.std.proofs.Common.{◌≡◌, ℕ, ◌-◌, Bool, true, false, not, Result, Ok, Err, List, [], ◌∷◌, ◌++◌, length, codes, refl, sym, ap, ◌∙◌, append_assoc, length-append, arith, Global}
+use Rattle.std.specs.Prelude.{OnOk, take, String, ◌==◌}
 use Rattle.std.proofs.Math.Seq.{take-append_seam}
-use Rattle.std.proofs.lemmas.List.{append-nil}
 use Rattle.pap_plan.specs.declared.refusal.PlanRefusal.{PlanRefusal}
 use Rattle.plan_answers.specs.Answers.{Answer, IsRefusal}
-use Rattle.flowchart_methods.specs.Turns.{AddsInTurn}
-use Rattle.flowchart_methods.proofs.Laws.{adds_none, adds_before, adds_behind, adds_then}
 use Rattle.flowchart_methods.specs.Escapes.{escaped}
+use Rattle.flowchart_methods.specs.Comments.{comments_text}
+use Rattle.flowchart_page.specs.Heads.{lead_text}
 use Rattle.flowchart_page.specs.Pages.{shown_parts, IsRefusalLine}
 
 pub on_ok : {A E : Type 0} (r : Result A E) (P Q : Type 0) → OnOk r P → (P → Q) → OnOk r Q
 on_ok (Ok v) P Q h f = f h
 on_ok (Err e) P Q h f = h
 
--- HTML with no text
-pub adds_html : (html old new : List ℕ) → new ≡ old ++ html → AddsInTurn [] old new
-adds_html html old new is = adds_behind [] html old old new is (adds_none old)
+-- a text that is gone on with by three pieces, by six, and by seven
+pub three_pieces : (a b c old p q new : List ℕ) → p ≡ old ++ a → q ≡ p ++ b → new ≡ q ++ c → new ≡ old ++ (a ++ (b ++ c))
+three_pieces a b c old p q new is_p is_q is_new =
+    is_new
+    ∙ ap (λ l. l ++ c) (is_q ∙ ap (λ l. l ++ b) is_p ∙ append_assoc old a b)
+    ∙ append_assoc old (a ++ b) c
+    ∙ ap (λ l. old ++ l) (append_assoc a b c)
 
-pub on_html : {A E : Type 0} (r : Result A E) (html old new : List ℕ) → OnOk r (new ≡ old ++ html)
-    → OnOk r (AddsInTurn [] old new)
-on_html r html old new written = on_ok r (new ≡ old ++ html) (AddsInTurn [] old new) written (adds_html html old new)
+one_before : (a rest old p new : List ℕ) → p ≡ old ++ a → new ≡ p ++ rest → new ≡ old ++ (a ++ rest)
+one_before a rest old p new is_p is_new = is_new ∙ ap (λ l. l ++ rest) is_p ∙ append_assoc old a rest
 
-pub on_nothing : (page : List ℕ) → AddsInTurn [] page page
-on_nothing page = adds_none page
+pub six_pieces : (a b c d e f old p q r s t new : List ℕ) → p ≡ old ++ a → q ≡ p ++ b → r ≡ q ++ c → s ≡ r ++ d → t ≡ s ++ e
+    → new ≡ t ++ f → new ≡ old ++ (a ++ (b ++ (c ++ (d ++ (e ++ f)))))
+six_pieces a b c d e f old p q r s t new is_p is_q is_r is_s is_t is_new =
+    one_before a (b ++ (c ++ (d ++ (e ++ f)))) old p new is_p
+    (one_before b (c ++ (d ++ (e ++ f))) p q new is_q
+    (one_before c (d ++ (e ++ f)) q r new is_r (three_pieces d e f r s t new is_s is_t is_new)))
 
--- a text alone, and one in HTML
-adds_text : (text old new : List ℕ) → new ≡ old ++ text → AddsInTurn (text ∷ []) old new
-adds_text text old new is = record { more = text; grown = is; stand = ([], [], sym (append-nil text), tt) }
+pub seven_pieces : (a b c d e f g old p q r s t u new : List ℕ) → p ≡ old ++ a → q ≡ p ++ b → r ≡ q ++ c → s ≡ r ++ d
+    → t ≡ s ++ e → u ≡ t ++ f → new ≡ u ++ g → new ≡ old ++ (a ++ (b ++ (c ++ (d ++ (e ++ (f ++ g))))))
+seven_pieces a b c d e f g old p q r s t u new is_p is_q is_r is_s is_t is_u is_new =
+    one_before a (b ++ (c ++ (d ++ (e ++ (f ++ g))))) old p new is_p
+    (six_pieces b c d e f g p q r s t u new is_q is_r is_s is_t is_u is_new)
 
-adds_part : (text first last old new : List ℕ) → new ≡ old ++ (first ++ (text ++ last)) → AddsInTurn (text ∷ []) old new
-adds_part text first last old new is =
-    record { more = first ++ (text ++ last); grown = is; stand = (first, last, refl, tt) }
-
--- HTML, the sentence, and what stands behind it
-pub said_in : (sentence text first : List ℕ) (behind : List (List ℕ)) (a b c d : List ℕ) → b ≡ a ++ first
-    → c ≡ b ++ text → text ≡ sentence → AddsInTurn behind c d → AddsInTurn (sentence ∷ behind) a d
-said_in sentence text first behind a b c d before said is adds =
-    adds_before (sentence ∷ behind) first a b d before
-    (adds_then (sentence ∷ []) behind b c d (adds_text sentence b c (said ∙ ap (λ t. b ++ t) is)) adds)
-
--- the words, the line in HTML, HTML, and HTML
-pub reason_in : (words line first last end a b c d e : List ℕ) → b ≡ a ++ words → c ≡ b ++ (first ++ (line ++ last))
-    → AddsInTurn [] c d → e ≡ d ++ end → AddsInTurn (words ∷ line ∷ []) a e
-reason_in words line first last end a b c d e worded lined linked ended =
-    adds_then (words ∷ []) (line ∷ []) a b e (adds_text words a b worded)
-    (adds_behind (line ∷ []) end b d e ended
-    (adds_then (line ∷ []) [] b c d (adds_part line first last b c lined) linked))
+-- the comments before a plan, where there are some
+pub lead_of : (comments : List (String Global)) → (length comments == 0) ≡ false
+    → codes "<p class=\"lead\">" ++ (comments_text comments ++ codes "</p>\n") ≡ lead_text comments
+lead_of [] none = absurd cc
+lead_of (comment ∷ comments) some = refl
 
 -- ---- words, part by part
 

@@ -1,5 +1,5 @@
 -- What is found of a plan, and the words on it, by the range file or an empty one.
-use Rattle.std.proofs.Common.{◌≡◌, ◌≢◌, inl, inr, true, false, Option, Some, None, List, [], ◌∷◌, ℕ, refl, sym, ap, ◌∙◌, subst}
+use Rattle.std.proofs.Common.{◌≡◌, ◌≢◌, inl, inr, true, false, Option, Some, None, List, [], ℕ, refl, sym, ap, ◌∙◌, subst}
 use Rattle.std.specs.Prelude.{option_map, is_none, unwrap_or}
 use Rattle.pap_plan.specs.declared.refusal.PlanRefusal.{PlanRefusal}
 use Rattle.pap_plan.specs.declared.refusal.PlanRefusal.TheVariants as refusals
@@ -11,8 +11,7 @@ use Rattle.plain_words.specs.Places.{NamedText, named_text, files_of}
 use Rattle.plain_words.specs.Refusals.{TellsPlan}
 use Rattle.flowchart_page.specs.Verdicts.{lacks_limit, file_or_none, IsJudged}
 use Rattle.flowchart_page.specs.Findings.{IsFound, accepted, in_order, refused}
-use Rattle.flowchart_methods.specs.Escapes.{escaped}
-use Rattle.flowchart_page.specs.Pages.{refused_text, shown_words, IsRefusalLine, Says}
+use Rattle.flowchart_page.specs.Pages.{IsRefusalLine}
 use Rattle.flowchart_page.specs.private.VerdictViews.{SaysRefusal, is_excused}
 
 pub file_kept : (limits : Option TextFile) (file other : TextFile) → file ≡ unwrap_or limits other
@@ -123,8 +122,7 @@ judged_refused plan file None r words is other known h says =
       other = other;
     }
 
--- what a page says of it
-pub says_refused : (plan : List ℕ) (r s : PlanRefusal) (words line : List ℕ) → s ≡ r → IsRefusalLine plan r line
-    → Says plan (refused s) (Some words) (refused_text ∷ shown_words words ∷ escaped line ∷ [])
-says_refused plan r s words line same is =
-    record { line = line; is_line = subst (λ x. IsRefusalLine plan x line) (sym same) is; is = refl }
+-- its line
+pub line_kept : (plan : List ℕ) (r s : PlanRefusal) (line : List ℕ) → s ≡ r → IsRefusalLine plan r line
+    → IsRefusalLine plan s line
+line_kept plan r s line same is = subst (λ x. IsRefusalLine plan x line) (sym same) is

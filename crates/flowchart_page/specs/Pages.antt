@@ -1,5 +1,6 @@
 -- What a page says of its plan.
-use Rattle.std.specs.Prelude.{◌≡◌, ◌⊎◌, ℕ, Bool, true, false, ◌==◌, List, [], ◌∷◌, ◌++◌, codes, Option, Some, None}
+use Rattle.std.specs.Prelude.{◌≡◌, ◌⊎◌, ℕ, Bool, true, false, ◌==◌, List, [], ◌∷◌, ◌++◌, codes, Option, Some, None, String}
+use Rattle.std.specs.declared.alloc.Global.{Global}
 use Rattle.std.specs.Fmt.{decimal}
 use Rattle.std.specs.List.{slice_split}
 use Rattle.pap_reader.specs.declared.fault.ReadFault.{ReadFault}
@@ -9,39 +10,39 @@ use Rattle.pap_types.specs.Meaning.{bound_of}
 use Rattle.pap_plan.specs.declared.refusal.PlanRefusal.{PlanRefusal}
 use Rattle.plan_answers.specs.Answers.{Answer, IsRefusal}
 use Rattle.flowchart_methods.specs.Escapes.{escaped}
+use Rattle.flowchart_methods.specs.declared.site.Site.{Site}
+use Rattle.flowchart_methods.specs.declared.site.Site.TheVariants.{Statement, Method, Declared, Nowhere}
+use Rattle.flowchart_methods.specs.Sites.{named_statement}
 use Rattle.flowchart_methods.specs.Turns.{StandInTurn}
 use Rattle.flowchart_methods.specs.Captions.{AreCaptions, methods_of}
 use Rattle.flowchart_page.specs.Findings.{Finding, accepted, in_order, refused, IsFound, marked}
-
--- how a page begins
-abbrev pub page_start : List ℕ
-page_start = codes "<!DOCTYPE html>\n<html lang=\"en\">\n<head>\n<meta charset=\"utf-8\">\n"
+use Rattle.flowchart_page.specs.Heads.{page_head}
 
 -- the last line of a page
 abbrev pub page_end : List ℕ
 page_end = codes "</body></html>\n"
 
--- a page from its start to its end, with these texts in it in turn
-pub record IsWholePage (texts : List (List ℕ)) (page : List ℕ) : Type 0 where
-  pub inside : List ℕ
-  pub whole : page ≡ page_start ++ (inside ++ page_end)
-  pub stand : StandInTurn texts inside
+-- a page from its start to its end: its head, then the verdict, and what stands behind that, where these captions stand in turn
+pub record IsWholePage (verdict : List ℕ) (captions : List (List ℕ)) (page : List ℕ) : Type 0 where
+  pub title : List ℕ
+  pub version : Option (List ℕ)
+  pub lead : List (String Global)
+  pub rest : List ℕ
+  pub whole : page ≡ page_head title version lead ++ (verdict ++ (rest ++ page_end))
+  pub stand : StandInTurn captions rest
 
--- ---- what is said of the plan
+-- ---- the verdict
 
--- what a page says of an accepted plan, with its bound
+-- the verdict on an accepted plan, with its bound
 abbrev pub accepted_text : ℕ → List ℕ
 accepted_text bound =
-    codes "<b>Accepted.</b> On every input within the ranges a run is safe and takes at most <b>"
-    ++ (decimal bound ++ codes "</b> steps.")
+    codes "<p class=\"ok\"><b>Accepted.</b> On every input within the ranges a run is safe and takes at most <b>"
+    ++ (decimal bound ++ codes "</b> steps.</p>\n")
 
--- what a page says of a plan without a range file, as far as it is in order
+-- the verdict on a plan without a range file, as far as it is in order
 abbrev pub in_order_text : List ℕ
-in_order_text = codes "<b>In order</b>, as far as it can be said without a range file"
-
--- what a page has before the words of a refusal
-abbrev pub refused_text : List ℕ
-refused_text = codes "<b>Refused.</b> "
+in_order_text =
+    codes "<p class=\"ok\"><b>In order</b>, as far as it can be said without a range file: its expressions, names, types and methods. Whether each run is safe is said with a range file.</p>\n"
 
 -- parts of words in a page, in turn plain and code
 abbrev pub shown_parts : Bool → List (List ℕ) → List ℕ
@@ -60,39 +61,57 @@ pub record IsRefusalLine (plan : List ℕ) (r : PlanRefusal) (line : List ℕ) :
   pub refused : IsRefusal plan r answer
   pub is : answer.text ≡ line ++ 10 ∷ []
 
--- what is said of a refused plan: that it is refused, why in words, and the line that is written of it
-pub record SaysRefused (plan : List ℕ) (r : PlanRefusal) (words : List ℕ) (said : List (List ℕ)) : Type 0 where
+-- the link to what a refusal names on the page, where it names something there
+abbrev pub link_text : Site → List ℕ
+link_text (Statement method number) =
+    codes " <a href=\"#" ++ (method ++ (codes ":" ++ (decimal number ++ codes "\">Show it in the drawing</a>")))
+link_text (Method method) = codes " <a href=\"#method-" ++ (method ++ codes "\">Show it in the drawing</a>")
+link_text (Declared name) = codes " <a href=\"#name-" ++ (name ++ codes "\">Show it in the table</a>")
+link_text Nowhere = []
+
+-- the verdict on a refused plan: why it is refused, in words, the line of `check`, and a link
+abbrev pub refused_text : List ℕ → List ℕ → Site → List ℕ
+refused_text words line site =
+    codes "<div class=\"no\"><p><b>Refused.</b> "
+    ++ (shown_words words
+    ++ (codes ".</p>\n<p><code>"
+    ++ (escaped line ++ (codes "</code>" ++ (link_text site ++ codes "</p></div>\n")))))
+
+-- the verdict on a refused plan with these words, and a link to this
+pub record SaysRefused (plan : List ℕ) (r : PlanRefusal) (words : List ℕ) (site : Site) (verdict : List ℕ) : Type 0 where
   pub line : List ℕ
   pub is_line : IsRefusalLine plan r line
-  pub is : said ≡ refused_text ∷ shown_words words ∷ escaped line ∷ []
+  pub is : verdict ≡ refused_text words line site
 
--- what is said of a plan of which this is found, with these words where it is refused
-abbrev pub Says : List ℕ → Finding → Option (List ℕ) → List (List ℕ) → Type 0
-Says plan (accepted m) None said = said ≡ accepted_text (bound_of m.flowchart) ∷ []
-Says plan in_order None said = said ≡ in_order_text ∷ []
-Says plan (refused r) (Some words) said = SaysRefused plan r words said
-Says _ _ _ _ = ⊥
+-- the verdict on a plan of which this is found, with these words and this link where it is refused
+abbrev pub Says : List ℕ → Finding → Option (List ℕ) → Site → List ℕ → Type 0
+Says plan (accepted m) None site verdict = verdict ≡ accepted_text (bound_of m.flowchart)
+Says plan in_order None site verdict = verdict ≡ in_order_text
+Says plan (refused r) (Some words) site verdict = SaysRefused plan r words site verdict
+Says _ _ _ _ _ = ⊥
 
 -- ---- the drawings
 
 -- the captions of the plan's methods: where its refusal names a statement by its method's name and its number, the one
--- of that number is marked in each method of that name, and no other; no captions of a file that isn't read as a plan
-abbrev pub ArePlanCaptions : List ℕ → Finding → List (List ℕ) → Type 0
-ArePlanCaptions plan finding captions =
-    ((tree : ElementTree) × IsElements plan tree × AreCaptions (marked finding) (methods_of tree) captions)
-    ⊎ ((fault : ReadFault) × IsFault plan fault × (captions ≡ []))
+-- of that number is marked in each method of that name, and no other, and the verdict leads to it; no captions of a file that
+-- isn't read as a plan
+abbrev pub ArePlanCaptions : List ℕ → Finding → Site → List (List ℕ) → Type 0
+ArePlanCaptions plan finding site captions =
+    ((tree : ElementTree) × IsElements plan tree × (named_statement site ≡ marked finding)
+    × AreCaptions (marked finding) (methods_of tree) captions)
+    ⊎ ((fault : ReadFault) × IsFault plan fault × (site ≡ Nowhere) × (captions ≡ []))
 
--- a whole page, in it what is said of the plan, and behind that the captions of its methods
-pub record Shows (plan : List ℕ) (finding : Finding) (said : List (List ℕ)) (page : List ℕ) : Type 0 where
+-- a whole page with this verdict, and behind it the captions of its methods
+pub record Shows (plan : List ℕ) (finding : Finding) (site : Site) (verdict page : List ℕ) : Type 0 where
   pub captions : List (List ℕ)
-  pub are_captions : ArePlanCaptions plan finding captions
-  pub whole : IsWholePage (said ++ captions) page
+  pub are_captions : ArePlanCaptions plan finding site captions
+  pub whole : IsWholePage verdict captions page
 
--- what is found of the plan, with the range file or without one, is what the page says and shows, and it has these words
--- on a refusal
+-- the verdict on the page is what is found of the plan, with the range file or without one, and it has these words on a refusal
 pub record IsPage (plan : List ℕ) (limits : Option (List ℕ)) (words : Option (List ℕ)) (page : List ℕ) : Type 0 where
   pub finding : Finding
   pub found : IsFound plan limits finding
-  pub said : List (List ℕ)
-  pub says : Says plan finding words said
-  pub shown : Shows plan finding said page
+  pub site : Site
+  pub verdict : List ℕ
+  pub says : Says plan finding words site verdict
+  pub shown : Shows plan finding site verdict page

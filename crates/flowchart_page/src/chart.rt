@@ -1,16 +1,18 @@
 //! The whole page.
-ghost use Rattle.std.specs.Prelude.{◌≡◌, ◌++◌, option_map, IfOk, string_bytes};
+ghost use Rattle.std.specs.Prelude.{◌≡◌, [], option_map, IfOk, string_bytes};
 ghost use Rattle.std.specs.List.{flat_map};
 ghost use Rattle.pap_reader.specs.Trees.{tree_of};
 ghost use Rattle.flowchart_methods.specs.Chapters.{chapter_captions};
 ghost use Rattle.plain_words.specs.Places.{named_text};
 ghost use Rattle.flowchart_page.specs.Verdicts.{IsJudged};
-ghost use Rattle.flowchart_page.specs.Pages.{IsWholePage, Shows, IsPage};
-ghost use Rattle.flowchart_page.specs.private.PageViews.{ShowsTree};
-ghost use Rattle.flowchart_page.specs.private.VerdictViews.{finding_of, words_of, said_of};
+ghost use Rattle.flowchart_methods.specs.declared.site.Site.TheVariants.{Nowhere};
+ghost use Rattle.flowchart_methods.specs.Turns.{StandInTurn};
+ghost use Rattle.flowchart_page.specs.Pages.{IsWholePage, IsPage};
+ghost use Rattle.flowchart_page.specs.private.PageViews.{IsAround, ShowsTree, ShowsVerdict};
+ghost use Rattle.flowchart_page.specs.private.VerdictViews.{finding_of, words_of, verdict_text};
 
 use crate::declarations::{Declarations, write_declarations};
-use crate::header::{PAGE_END, PAGE_START, head_of, write_lead, write_verdict};
+use crate::header::{Head, push_head, push_own, push_page, push_verdict};
 use crate::index::{write_index, write_key};
 use crate::site::site_shown;
 use crate::verdict::{Reason, Verdict, judge};
@@ -53,7 +55,7 @@ pub fn draw_chart(
     let verdict = judge(alloc, plan, limits)?;
     let page = write_chart(alloc, plan, limits, &verdict)?;
     Ok(Chart {
-        page: page.into_bytes(),
+        page,
         reason: words_of(verdict),
     })
 }
@@ -75,14 +77,14 @@ fn write_chart(
     plan: TextFile<'_>,
     limits: Option<TextFile<'_>>,
     verdict: &Verdict,
-) -> Result<Page, AllocError>
-    ensures { IfOk result
-        (Shows plan.entry.bytes.now (finding_of verdict.now) (said_of verdict.now)) }
+) -> Result<Vec<u8>, AllocError>
+    ensures { IfOk result (λ page. ShowsVerdict plan.entry.bytes.now (finding_of verdict.now)
+        (verdict_text verdict.now) page.items) }
 {
     match read_elements(alloc, plan.bytes) {
-        Ok(elements) => read_page(alloc, plan, limits, verdict, &elements),
+        Ok(elements) => Ok(read_page(alloc, plan, limits, verdict, &elements)?),
         Err(ReadFault::Memory) => Err(AllocError),
-        Err(_) => empty_page(alloc, plan.name, verdict),
+        Err(_) => Ok(empty_page(alloc, plan.name, verdict)?),
     }
 }
 
@@ -93,9 +95,9 @@ fn read_page(
     limits: Option<TextFile<'_>>,
     verdict: &Verdict,
     elements: &Elements,
-) -> Result<Page, AllocError>
-    ensures { IfOk result
-        (ShowsTree (finding_of verdict.now) (said_of verdict.now) (tree_of elements.now)) }
+) -> Result<Vec<u8>, AllocError>
+    ensures { IfOk result (λ page. ShowsTree (finding_of verdict.now)
+        (verdict_text verdict.now) (tree_of elements.now) page.items) }
 {
     let notes = read_notes(alloc, plan.bytes)?;
     let limits = limits_of(alloc, limits)?;
@@ -130,26 +132,45 @@ struct Source<'a> {
 }
 
 /// The page of a file that is no plan: its head alone.
-fn empty_page(alloc: Global, file: &str, verdict: &Verdict) -> Result<Page, AllocError>
-    ensures { IfOk result (IsWholePage (said_of verdict.now)) }
+fn empty_page(alloc: Global, file: &str, verdict: &Verdict) -> Result<Vec<u8>, AllocError>
+    ensures { IfOk result (λ page.
+        IsWholePage (verdict_text verdict.now Nowhere) [] page.items) }
 {
-    let mut page = Page::new(alloc);
-    page.own(PAGE_START)?;
-    page.append(&head_of(alloc, file, None)?)?;
-    write_verdict(&mut page, verdict, &Site::Nowhere)?;
-    page.own(NO_DRAWING)?;
-    page.own(PAGE_END)?;
-    Ok(page)
+    let mut rest = Page::new(alloc);
+    rest.own(
+        "<p class=\"sub\" id=\"methods\">There is nothing to draw: the file is not read as a flowchart.</p></header>",
+    )?;
+    let head = Head {
+        title: file,
+        version: None,
+        lead: &[],
+    };
+    page_of(alloc, head, verdict, &Site::Nowhere, rest)
 }
 
-/// What stands in place of the drawings of a file that is no plan.
-const NO_DRAWING: &str =
-    "<p class=\"sub\" id=\"methods\">There is nothing to draw: the file is not read as a flowchart.</p></header>";
+/// A page from what stands before its verdict up to its end. `rest` is what stands behind the verdict.
+fn page_of(
+    alloc: Global,
+    head: Head<'_>,
+    verdict: &Verdict,
+    site: &Site,
+    rest: Page,
+) -> Result<Vec<u8>, AllocError>
+    ensures { IfOk result (λ page.
+        IsAround (verdict_text verdict.now site.now) rest page.items) }
+{
+    let mut html = Vec::new(alloc);
+    push_head(alloc, &mut html, head)?;
+    push_verdict(alloc, &mut html, verdict, site)?;
+    push_page(&mut html, rest)?;
+    push_own(&mut html, "</body></html>\n")?;
+    Ok(html)
+}
 
 /// The page of a plan with its methods.
-fn plan_page(alloc: Global, elements: &Elements, source: Source<'_>) -> Result<Page, AllocError>
-    ensures { IfOk result (ShowsTree (finding_of source.entry.verdict.now)
-        (said_of source.entry.verdict.now) (tree_of elements.now)) }
+fn plan_page(alloc: Global, elements: &Elements, source: Source<'_>) -> Result<Vec<u8>, AllocError>
+    ensures { IfOk result (λ page. ShowsTree (finding_of source.entry.verdict.now)
+        (verdict_text source.entry.verdict.now) (tree_of elements.now) page.items) }
 {
     let site = site_shown(elements, source.verdict);
     let chapters = read_chapters(alloc, elements, source.notes, &site)?;
@@ -163,25 +184,35 @@ fn whole_page(
     source: Source<'_>,
     chapters: &[Chapter<'_>],
     site: &Site,
-) -> Result<Page, AllocError>
-    ensures { IfOk result (IsWholePage (said_of source.entry.verdict.now
-        ++ flat_map chapter_captions chapters.now)) }
+) -> Result<Vec<u8>, AllocError>
+    ensures { IfOk result (λ page.
+        IsWholePage (verdict_text source.entry.verdict.now site.now)
+        (flat_map chapter_captions chapters.now) page.items) }
 {
-    let mut page = Page::new(alloc);
-    page.own(PAGE_START)?;
-    page.append(&plan_head(alloc, source)?)?;
-    write_verdict(&mut page, source.verdict, site)?;
-    page.append(&before_methods(alloc, elements, source, chapters, site)?)?;
+    let rest = behind_verdict(alloc, elements, source, chapters, site)?;
+    page_of(alloc, head_of(source), source.verdict, site, rest)
+}
+
+/// What stands behind the sentence on a plan.
+fn behind_verdict(
+    alloc: Global,
+    elements: &Elements,
+    source: Source<'_>,
+    chapters: &[Chapter<'_>],
+    site: &Site,
+) -> Result<Page, AllocError>
+    ensures { IfOk result (StandInTurn (flat_map chapter_captions chapters.now)) }
+{
+    let mut page = before_methods(alloc, elements, source, chapters, site)?;
     write_methods(&mut page, elements, chapters, site)?;
     page.append(&behind_methods(alloc, source.notes)?)?;
-    page.own(PAGE_END)?;
     Ok(page)
 }
 
 /// The head of a plan's page: its name, its version and the comments before it.
-fn plan_head(alloc: Global, source: Source<'_>) -> Result<Page, AllocError> {
+fn head_of<'a>(source: Source<'a>) -> Head<'a> {
     let notes = source.notes;
-    let name = match &notes.name {
+    let title = match &notes.name {
         Some(name) => name.as_str(),
         None => source.file,
     };
@@ -189,9 +220,11 @@ fn plan_head(alloc: Global, source: Source<'_>) -> Result<Page, AllocError> {
         Some(version) => Some(version.as_str()),
         None => None,
     };
-    let mut page = head_of(alloc, name, version)?;
-    write_lead(&mut page, notes.walk().skip_to(Element::Pap))?;
-    Ok(page)
+    Head {
+        title,
+        version,
+        lead: notes.walk().skip_to(Element::Pap),
+    }
 }
 
 /// What stands between the sentence on a plan and its methods: their number, their index, the declarations, the key of the

@@ -1,158 +1,212 @@
-//! The head of the page and its verdict.
-ghost use Rattle.std.specs.Prelude.{◌≡◌, ◌∷◌, ◌++◌, [], IfOk, OnOk, string_bytes};
-ghost use Rattle.flowchart_methods.specs.Turns.{AddsInTurn};
+//! The head of the page and its verdict: texts that are known byte by byte.
+ghost use Rattle.std.specs.Prelude.{◌≡◌, ◌++◌, ◌∷◌, [], IfOk, OnOk, option_map, string_bytes};
+ghost use Rattle.pap_types.specs.Meaning.{bound_of};
+ghost use Rattle.pap_plan.specs.Plans.{meaning};
 ghost use Rattle.flowchart_methods.specs.Escapes.{escaped};
-ghost use Rattle.flowchart_page.specs.Pages.{shown_parts, shown_words};
-ghost use Rattle.flowchart_page.specs.private.VerdictViews.{said_of, sentence_of, behind_sentence};
+ghost use Rattle.flowchart_page.specs.Heads.{page_head, head_start, version_text, lead_text};
+ghost use Rattle.flowchart_page.specs.Pages.{shown_parts, shown_words, link_text, accepted_text, refused_text};
+ghost use Rattle.flowchart_page.specs.private.VerdictViews.{verdict_text};
 
 use crate::style::STYLE;
 use crate::verdict::{Reason, Verdict};
-use flowchart_methods::{Page, Site, write_comments};
+use flowchart_methods::{Page, Site, push_escaped, write_comments};
+use pap_plan::Plan;
 use std::alloc::{AllocError, Global};
 
-/// How a page begins.
-pub(crate) const PAGE_START: &str =
-    "<!DOCTYPE html>\n<html lang=\"en\">\n<head>\n<meta charset=\"utf-8\">\n";
+/// How a page begins, up to its title.
+const PAGE_START: &str =
+    "<!DOCTYPE html>\n<html lang=\"en\">\n<head>\n<meta charset=\"utf-8\">\n<meta name=\"viewport\" content=\"width=device-width, initial-scale=1\">\n<title>";
 
-/// How a page ends.
-pub(crate) const PAGE_END: &str = "</body></html>\n";
+/// What stands between the style sheet and the title of the page's body.
+const BODY_START: &str =
+    "\n</style>\n</head>\n<body>\n<a class=\"skip\" href=\"#methods\">Skip to the drawings</a>\n<header><h1>";
 
-/// The head of the page from its start on, up to the title of its body.
-pub(crate) fn head_of(
-    alloc: Global,
-    name: &str,
-    version: Option<&str>,
-) -> Result<Page, AllocError> {
-    let mut page = Page::new(alloc);
-    page.own("<meta name=\"viewport\" content=\"width=device-width, initial-scale=1\">\n")?;
-    page.element("<title>", name.as_bytes(), ": flowchart</title>\n<style>\n")?;
-    page.own(STYLE)?;
-    page.own(
-        "\n</style>\n</head>\n<body>\n<a class=\"skip\" href=\"#methods\">Skip to the drawings</a>\n",
-    )?;
-    page.element("<header><h1>", name.as_bytes(), "")?;
-    if let Some(version) = version {
-        page.element(" <small>", version.as_bytes(), "</small>")?;
+/// What stands in the head of a page.
+#[derive(Clone, Copy)]
+pub(crate) struct Head<'a> {
+    pub title: &'a str,
+    pub version: Option<&'a str>,
+    /// The comments before the plan.
+    pub lead: &'a [String],
+}
+
+/// Appends what stands before the verdict.
+pub(crate) fn push_head(alloc: Global, html: &mut Vec<u8>, head: Head<'_>) -> Result<(), AllocError>
+    ensures { OnOk result (html.new.items ≡ html.old.items ++ page_head head.entry.title.now
+        (option_map (λ version. version.now) head.entry.version) head.entry.lead.now) }
+{
+    push_head_start(html, head.title)?;
+    push_version(html, head.version)?;
+    push_lead(alloc, html, head.lead)?;
+    Ok(())
+}
+
+/// Appends how a page begins, with its title in its head and in its body.
+fn push_head_start(html: &mut Vec<u8>, title: &str) -> Result<(), AllocError>
+    ensures { OnOk result (html.new.items ≡ html.old.items ++ head_start title.now) }
+{
+    push_own(html, PAGE_START)?;
+    push_escaped(html, title.as_bytes())?;
+    push_own(html, ": flowchart</title>\n<style>\n")?;
+    push_own(html, STYLE)?;
+    push_own(html, BODY_START)?;
+    push_escaped(html, title.as_bytes())?;
+    Ok(())
+}
+
+/// Appends the version of a plan, where it has one, and the end of the title.
+fn push_version(html: &mut Vec<u8>, version: Option<&str>) -> Result<(), AllocError>
+    ensures { OnOk result (html.new.items
+        ≡ html.old.items ++ version_text (option_map (λ version. version.now) version.entry)) }
+{
+    match version {
+        Some(version) => push_marked(html, " <small>", version.as_bytes(), "</small></h1>\n"),
+        None => push_own(html, "</h1>\n"),
     }
-    page.own("</h1>\n")?;
-    Ok(page)
 }
 
 /// Appends the comments before the plan.
-pub(crate) fn write_lead(page: &mut Page, comments: &[String]) -> Result<(), AllocError> {
+fn push_lead(alloc: Global, html: &mut Vec<u8>, comments: &[String]) -> Result<(), AllocError>
+    ensures { OnOk result (html.new.items ≡ html.old.items ++ lead_text comments.now) }
+{
     if comments.is_empty() {
         return Ok(());
     }
-    page.own("<p class=\"lead\">")?;
-    write_comments(page, comments)?;
-    page.own("</p>\n")
+    let mut text = Page::new(alloc);
+    write_comments(&mut text, comments)?;
+    push_own(html, "<p class=\"lead\">")?;
+    push_page(html, text)?;
+    push_own(html, "</p>\n")?;
+    Ok(())
+}
+
+/// Appends a part of a page.
+pub(crate) fn push_page(html: &mut Vec<u8>, part: Page) -> Result<(), AllocError>
+    ensures { OnOk result (html.new.items ≡ html.old.items ++ part) }
+{
+    html.extend_from_slice(&part.into_bytes())
+}
+
+/// Appends HTML.
+pub(crate) fn push_own(html: &mut Vec<u8>, own: &str) -> Result<(), AllocError>
+    ensures { OnOk result (html.new.items ≡ html.old.items ++ own.now) }
+{
+    html.extend_from_slice(own.as_bytes())
+}
+
+/// Appends a text between HTML before it and behind it.
+fn push_marked(
+    html: &mut Vec<u8>,
+    before: &str,
+    text: &[u8],
+    behind: &str,
+) -> Result<(), AllocError>
+    ensures { OnOk result (html.new.items
+        ≡ html.old.items ++ (before.now ++ (escaped text.now ++ behind.now))) }
+{
+    push_own(html, before)?;
+    push_escaped(html, text)?;
+    push_own(html, behind)?;
+    Ok(())
 }
 
 /// Appends what is said of the plan.
-pub(crate) fn write_verdict(
-    page: &mut Page,
+pub(crate) fn push_verdict(
+    alloc: Global,
+    html: &mut Vec<u8>,
     verdict: &Verdict,
     site: &Site,
 ) -> Result<(), AllocError>
-    ensures { OnOk result (AddsInTurn (said_of verdict.now) page.old page.new) }
-{
-    let alloc = page.alloc();
-    page.own(verdict_start(verdict))?;
-    page.own(&verdict_text(alloc, verdict)?)?;
-    write_verdict_end(page, verdict, site)
-}
-
-/// The start tags round the sentence on a plan.
-fn verdict_start(verdict: &Verdict) -> &'static str {
-    match verdict {
-        Verdict::Accepted(_) | Verdict::InOrder => "<p class=\"ok\">",
-        Verdict::Refused(_) => "<div class=\"no\"><p>",
-    }
-}
-
-/// The sentence on a plan.
-fn verdict_text(alloc: Global, verdict: &Verdict) -> Result<String, AllocError>
-    ensures { IfOk result (λ text. string_bytes text ≡ sentence_of verdict.now) }
+    ensures { OnOk result
+        (html.new.items ≡ html.old.items ++ verdict_text verdict.now site.now) }
 {
     match verdict {
-        Verdict::Accepted(plan) => {
-            let bound = plan.bound();
-            format!(in alloc;
-                "<b>Accepted.</b> On every input within the ranges a run is safe and takes at most <b>{bound}</b> steps."
-            )
-        }
-        Verdict::InOrder => String::from_str(
-            alloc,
-            "<b>In order</b>, as far as it can be said without a range file",
+        Verdict::Accepted(plan) => push_accepted(alloc, html, plan),
+        Verdict::InOrder => push_own(
+            html,
+            "<p class=\"ok\"><b>In order</b>, as far as it can be said without a range file: its expressions, names, types and methods. Whether each run is safe is said with a range file.</p>\n",
         ),
-        Verdict::Refused(_) => String::from_str(alloc, "<b>Refused.</b> "),
+        Verdict::Refused(reason) => push_reason(alloc, html, reason, site),
     }
 }
 
-/// Appends what stands behind the sentence on a plan: of a refused one the reason.
-#[tactic(auto, using(crate::proofs::HeaderLemmas::on_html))]
-fn write_verdict_end(page: &mut Page, verdict: &Verdict, site: &Site) -> Result<(), AllocError>
-    ensures { OnOk result (AddsInTurn (behind_sentence verdict.now) page.old page.new) }
+/// Appends that the plan is accepted, with its bound.
+fn push_accepted(alloc: Global, html: &mut Vec<u8>, plan: &Plan) -> Result<(), AllocError>
+    ensures { OnOk result (html.new.items
+        ≡ html.old.items ++ accepted_text (bound_of (meaning plan.now).flowchart)) }
 {
-    match verdict {
-        Verdict::Accepted(_) => page.own("</p>\n"),
-        Verdict::InOrder => page.own(
-            ": its expressions, names, types and methods. Whether each run is safe is said with a range file.</p>\n",
-        ),
-        Verdict::Refused(reason) => write_reason(page, reason, site),
-    }
+    let text = accepted_text(alloc, plan.bound())?;
+    push_own(html, &text)
 }
 
-/// Appends why the plan is refused.
-fn write_reason(page: &mut Page, reason: &Reason, site: &Site) -> Result<(), AllocError>
-    ensures { OnOk result (AddsInTurn (shown_words (string_bytes reason.now.words)
-        ∷ escaped reason.now.line.items ∷ []) page.old page.new) }
+/// The verdict on an accepted plan of a bound.
+fn accepted_text(alloc: Global, bound: u64) -> Result<String, AllocError>
+    ensures { IfOk result (λ text. string_bytes text ≡ accepted_text bound) }
 {
-    write_words(page, &reason.words)?;
-    page.element(".</p>\n<p><code>", &reason.line, "</code>")?;
-    write_link(page, site)?;
-    page.own("</p></div>\n")
+    format!(in alloc;
+        "<p class=\"ok\"><b>Accepted.</b> On every input within the ranges a run is safe and takes at most <b>{bound}</b> steps.</p>\n"
+    )
+}
+
+/// Appends that the plan is refused, and why.
+fn push_reason(
+    alloc: Global,
+    html: &mut Vec<u8>,
+    reason: &Reason,
+    site: &Site,
+) -> Result<(), AllocError>
+    ensures { OnOk result (html.new.items ≡ html.old.items
+        ++ refused_text (string_bytes reason.now.words) reason.now.line.items site.now) }
+{
+    let link = link_text(alloc, site)?;
+    push_own(html, "<div class=\"no\"><p><b>Refused.</b> ")?;
+    push_words(html, &reason.words)?;
+    push_own(html, ".</p>\n<p><code>")?;
+    push_escaped(html, &reason.line)?;
+    push_own(html, "</code>")?;
+    push_own(html, &link)?;
+    push_own(html, "</p></div>\n")?;
+    Ok(())
 }
 
 /// Appends plain words, with what stands in backquotes as code.
-fn write_words(page: &mut Page, words: &str) -> Result<(), AllocError>
-    ensures { OnOk result (page.new ≡ page.old ++ shown_words words.now) }
+fn push_words(html: &mut Vec<u8>, words: &str) -> Result<(), AllocError>
+    ensures { OnOk result (html.new.items ≡ html.old.items ++ shown_words words.now) }
 {
     let mut is_code = false;
     for part in words.as_bytes().split(|byte| *byte == b'`') {
-        write_part(page, part, is_code)?;
+        push_part(html, part, is_code)?;
         is_code = !is_code;
     }
     Ok(())
 }
 
 /// Appends a part of plain words, as code or not.
-fn write_part(page: &mut Page, part: &[u8], is_code: bool) -> Result<(), AllocError>
-    ensures { OnOk result (page.new ≡ page.old ++ shown_parts is_code (part.now ∷ [])) }
+fn push_part(html: &mut Vec<u8>, part: &[u8], is_code: bool) -> Result<(), AllocError>
+    ensures { OnOk result
+        (html.new.items ≡ html.old.items ++ shown_parts is_code (part.now ∷ [])) }
 {
     if is_code {
-        page.element("<code>", part, "</code>")
+        push_marked(html, "<code>", part, "</code>")
     } else {
-        page.text(part)
+        push_escaped(html, part)
     }
 }
 
-/// Appends the link to what a refusal names.
-#[tactic(auto, using(crate::proofs::HeaderLemmas::on_html, crate::proofs::HeaderLemmas::on_nothing))]
-fn write_link(page: &mut Page, site: &Site) -> Result<(), AllocError>
-    ensures { OnOk result (AddsInTurn [] page.old page.new) }
+/// The link to what a refusal names.
+fn link_text(alloc: Global, site: &Site) -> Result<String, AllocError>
+    ensures { IfOk result (λ text. string_bytes text ≡ link_text site.now) }
 {
-    let alloc = page.alloc();
     match site {
-        Site::Statement { method, number } => page.own(&format!(in alloc;
+        Site::Statement { method, number } => format!(in alloc;
             " <a href=\"#{method}:{number}\">Show it in the drawing</a>"
-        )?),
-        Site::Method(name) => page.own(&format!(in alloc;
+        ),
+        Site::Method(name) => format!(in alloc;
             " <a href=\"#method-{name}\">Show it in the drawing</a>"
-        )?),
-        Site::Declared(name) => page.own(&format!(in alloc;
+        ),
+        Site::Declared(name) => format!(in alloc;
             " <a href=\"#name-{name}\">Show it in the table</a>"
-        )?),
-        Site::Nowhere => Ok(()),
+        ),
+        Site::Nowhere => Ok(String::new(alloc)),
     }
 }

@@ -4,8 +4,8 @@ ghost use Rattle.plain_words.specs.Places.{named_text, files_of};
 ghost use Rattle.plan_answers.specs.Refusals.{HasItsPlan};
 ghost use Rattle.flowchart_page.specs.Verdicts.{lacks_limit, file_or_none, IsJudged};
 ghost use Rattle.flowchart_page.specs.Findings.{IsFound};
-ghost use Rattle.flowchart_page.specs.Pages.{IsRefusalLine, Says};
-ghost use Rattle.flowchart_page.specs.private.VerdictViews.{finding_of, words_of, said_of, is_excused, SaysRefusal};
+ghost use Rattle.flowchart_page.specs.Pages.{IsRefusalLine};
+ghost use Rattle.flowchart_page.specs.private.VerdictViews.{finding_of, words_of, HasLine, is_excused, SaysRefusal};
 
 use pap_plan::{Plan, PlanRefusal, accept};
 use plain_words::{TextFile, plan_words};
@@ -43,8 +43,7 @@ pub(crate) fn judge(
         (option_map (λ file. file.bytes.now) limits.entry) (finding_of verdict)) }
     ensures judged { IfOk result (λ verdict. IsJudged (named_text plan.entry)
         (option_map (λ file. named_text file) limits.entry) (words_of verdict)) }
-    ensures says { IfOk result (λ verdict. Says plan.entry.bytes.now (finding_of verdict)
-        (words_of verdict) (said_of verdict)) }
+    ensures line { IfOk result (HasLine plan.entry.bytes.now) }
 {
     let ranges = file_or_none(limits);
     match accept(alloc, plan.bytes, ranges.bytes) {

@@ -1,4 +1,4 @@
-//! Helps the author of a flowchart: draws it as a page, and begins its range file.
+//! Helps the author of a flowchart: draws it as a page, begins its range file, and compares it with another.
 #![tactic(auto)]
 
 use author_cli::{Stop, exit_number, pap_author};
@@ -10,13 +10,15 @@ use std::process::ExitCode;
 
 /// What is said where the words ask for nothing.
 const USAGE: &str =
-    "usage: pap_author chart PLAN | pap_author chart PLAN LIMITS | pap_author ranges PLAN";
+    "usage: pap_author chart PLAN | pap_author chart PLAN LIMITS | pap_author ranges PLAN | \
+    pap_author text compare OLD NEW";
 
 /// The answer to `--version`, with the checksum of the prover's rules by which the contracts are proved.
 const VERSION: &str = "pap_author 1.0.0 (rules dac8208d650f15bf)";
 
 /// The answer to `--help`.
-const HELP: &str = "pap_author draws a wage tax flowchart as a page, and begins its range file
+const HELP: &str =
+    "pap_author draws a wage tax flowchart as a page, begins its range file, and compares it with the one before
 
 usage:
   pap_author chart PLAN            write the flowchart as one page of HTML: what can be said of it without a range file, its
@@ -25,19 +27,22 @@ usage:
                                    the outputs; or why it is refused, with the statement, method or name in red
   pap_author ranges PLAN           write a range file to begin with: for each input the widest range that makes sense for its
                                    type, and what to narrow
+  pap_author text compare OLD NEW  write what the flowchart NEW changed against OLD: declarations with their values, and method
+                                   by method the statements; each line begins with = the same, ~ changed, + new or - gone
   pap_author --help                write this text
   pap_author --version             write the program's version
 
-PLAN is the file of a flowchart in the ministry's pseudocode (XML), LIMITS a range file (TOML). The page stands alone: it has
-no script and fetches nothing. Open it in a browser, or print it from there.
+PLAN, OLD and NEW are files of flowcharts in the ministry's pseudocode (XML), LIMITS a range file (TOML). The page stands
+alone: it has no script and fetches nothing. Open it in a browser, or print it from there.
 
 Where the plan is refused, a line on standard error says in plain words what is wrong, where it is in the file, and what
 helps. `chart` writes the page all the same, with the reason in it; that of a file that can't be read as a flowchart has no
 drawing. `ranges` doesn't judge the flowchart: only of a file that can't be read as one the line of its refusal is written,
-in place of the range file.
+in place of the range file. `compare` doesn't judge its flowcharts either: the line of the first file that can't be read as
+one is written in place of the text.
 
-It ends with 0 where all was written, 1 where that is of a refused plan, 2 where the words are none of these, 3 where a file
-can't be read, 5 where the output can't be written, 6 where memory runs out.";
+It ends with 0 where all was written, 1 where that is of a refused plan or of two flowcharts that differ, 2 where the words
+are none of these, 3 where a file can't be read, 5 where the output can't be written, 6 where memory runs out.";
 
 /// The words after the program's name.
 fn words_of(rt: &HostRuntime) -> io::Result<Vec<String>> {

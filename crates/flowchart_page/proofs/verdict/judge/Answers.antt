@@ -1,9 +1,9 @@
-use Rattle.std.proofs.Common.{◌≡◌, ◌≢◌, true, false, rules, refl}
+use Rattle.std.proofs.Common.{◌≡◌, ◌≢◌, true, false, rules}
 use Rattle.std.specs.Prelude.{is_none, string_bytes}
 use Rattle.pap_plan.specs.declared.refusal.PlanRefusal.TheVariants as refusals
 use Rattle.plan_answers.proofs.Laws.{its_plan}
 use Rattle.flowchart_page.specs.private.VerdictViews.{is_excused}
-use Rattle.flowchart_page.proofs.VerdictLemmas.{found_in_order, judged_in_order, found_refused, judged_refused, says_refused}
+use Rattle.flowchart_page.proofs.VerdictLemmas.{found_in_order, judged_in_order, found_refused, judged_refused, line_kept}
 use Rattle.flowchart_page.proofs.verdict.judge.Goals as goal
 
 pub reason_of-requires : goal.reason_of-requires
@@ -21,7 +21,7 @@ returns-then-is_excused c =
       judged = judged_in_order c.args.plan c.file_or_none-ranges.result c.args.limits c.in-Err.refusal
           c.file_or_none-ranges.ensures
           excused known c.in-Err.ensures.refused;
-      says = refl;
+      line = tt;
     }
 
 pub returns-in_ok-reason-in-Err : goal.returns-in_ok-reason-in-Err
@@ -36,7 +36,7 @@ returns-in_ok-reason-in-Err c =
           (string_bytes c.in_ok-reason-in-Err.reason.words) c.file_or_none-ranges.ensures other known
           c.in-Err.ensures.refused
           c.in_ok-reason-in-Err.ensures.says;
-      says = says_refused c.args.plan.bytes.now c.in-Err.refusal c.in_ok-reason-in-Err.reason.refusal
-          (string_bytes c.in_ok-reason-in-Err.reason.words) c.in_ok-reason-in-Err.reason.line.items
-          c.in_ok-reason-in-Err.ensures.refusal c.in_ok-reason-in-Err.ensures.line;
+      line = line_kept c.args.plan.bytes.now c.in-Err.refusal c.in_ok-reason-in-Err.reason.refusal
+          c.in_ok-reason-in-Err.reason.line.items c.in_ok-reason-in-Err.ensures.refusal
+          c.in_ok-reason-in-Err.ensures.line;
     }

@@ -1,0 +1,4 @@
+pub mod Comparisons
+pub mod Entries
+pub mod Outlines
+pub mod private

@@ -1,0 +1,2 @@
+pub mod AlignmentViews
+pub mod OutlineViews
