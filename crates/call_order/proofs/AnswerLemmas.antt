@@ -10,13 +10,13 @@ use Rattle.call_order.specs.Graphs.{graph_of}
 use Rattle.call_order.specs.Chains.{ReachesItself, BeginsMore}
 use Rattle.call_order.specs.Expanded.{expanded_in}
 use Rattle.call_order.specs.Orders.{HasNone}
-use Rattle.call_order.specs.Faults.{IsFirst, IsFirstMethod, HasOrderFault, last_count}
+use Rattle.call_order.specs.Faults.{IsFirstBelow, IsFirstMethod, HasOrderFault, last_count}
 use Rattle.call_order.specs.OrderLaws.{HasOrder, HasFault}
 use Rattle.call_order.proofs.OrderLemmas.{all_placed, is_order}
 use Rattle.call_order.proofs.WholeLemmas.{graph_known, length_graph}
 use Rattle.call_order.proofs.Decides.{first_or_none, begins_or_not, levels_found, cycle_or_not, order_found}
 
-same_first : (P : ℕ → Type 0) (n i j : ℕ) → IsFirst P n i → IsFirst P n j → i ≡ j
+same_first : (P : ℕ → Type 0) (n i j : ℕ) → IsFirstBelow P n i → IsFirstBelow P n j → i ≡ j
 same_first P n i j a b =
     elim (cases_lt i j) [
       | inl lt ↦ absurd (b.first i lt a.holds)
@@ -60,7 +60,7 @@ name_there (m ∷ ms) zero lt = (m.name, refl)
 name_there (m ∷ ms) (suc i) lt = name_there ms i (omega arith)
 
 module _ (f : Flowchart) where
-  named_first : (P : ℕ → Type 0) (i : ℕ) → IsFirst P (length f.methods) i → (x : List ℕ) × IsFirstMethod f P x
+  named_first : (P : ℕ → Type 0) (i : ℕ) → IsFirstBelow P (length f.methods) i → (x : List ℕ) × IsFirstMethod f P x
   named_first P i h = let n = name_there f.methods i h.below in (n.0, (i, h, n.1))
 
   pub some : HasOrder f ⊎ HasFault f

@@ -1,11 +1,11 @@
 -- Chains, put together and taken apart.
 use Rattle.std.proofs.Common.{ℕ, zero, suc, ◌+◌, ◌<◌, ◌≤◌, List, [], ◌∷◌, ◌++◌, length, arith}
 use Rattle.call_order.specs.Graphs.{Graph}
-use Rattle.call_order.specs.Chains.{Executes, IsChain, Reaches, BeginsMore}
+use Rattle.call_order.specs.Chains.{Executes, IsCallChain, Reaches, BeginsMore}
 
 module _ (g : Graph) where
   -- two chains, one after the other
-  pub chain-append : (i j : ℕ) (c d : List ℕ) → IsChain g i (c ++ j ∷ []) → IsChain g j d → IsChain g i (c ++ j ∷ d)
+  pub chain-append : (i j : ℕ) (c d : List ℕ) → IsCallChain g i (c ++ j ∷ []) → IsCallChain g j d → IsCallChain g i (c ++ j ∷ d)
   chain-append i j [] d h k = (h.0, k)
   chain-append i j (x ∷ c) d h k = (h.0, chain-append x j c d h.1 k)
 
@@ -17,7 +17,7 @@ module _ (g : Graph) where
   reaches-more i j k h r = (j ∷ r.0, (h, r.1))
 
   -- what holds of all that is executed holds of all that is reached
-  pub closed : (P : ℕ → Type 0) → ((k : ℕ) → P k → (j : ℕ) → Executes g k j → P j) → (i j : ℕ) (c : List ℕ) → P i → IsChain g i (c ++ j ∷ []) → P j
+  pub closed : (P : ℕ → Type 0) → ((k : ℕ) → P k → (j : ℕ) → Executes g k j → P j) → (i j : ℕ) (c : List ℕ) → P i → IsCallChain g i (c ++ j ∷ []) → P j
   closed P f i j [] p h = f i p j h.0
   closed P f i j (x ∷ c) p h = closed P f x j c (f i p x h.0) h.1
 

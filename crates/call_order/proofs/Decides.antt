@@ -7,18 +7,18 @@ use Rattle.std.proofs.Math.Seq.{get_or-append_seam}
 use Rattle.std.proofs.Math.ListN.{get_or-append}
 use Rattle.std.proofs.lemmas.List.Elements.{All-nil}
 use Rattle.call_order.specs.Graphs.{Graph}
-use Rattle.call_order.specs.Chains.{IsChain, BeginsMore, ReachesItself, content_at}
+use Rattle.call_order.specs.Chains.{IsCallChain, BeginsMore, ReachesItself, content_at}
 use Rattle.call_order.specs.private.LevelViews.{AllKnown, level_at, IsLongest, IsLevel, AreLevels, HaveLevels, AreAllPlaced, IsPartly, IsByLevel}
 use Rattle.call_order.specs.private.MarkViews.{AreMarked, IsMarking, is_marked, left}
 use Rattle.call_order.specs.Orders.{HasNone}
-use Rattle.call_order.specs.Faults.{IsFirst}
+use Rattle.call_order.specs.Faults.{IsFirstBelow}
 use Rattle.call_order.proofs.ChainLemmas.{begins-more}
 use Rattle.call_order.proofs.MarkLemmas.{marked_cases, marking_more, marking_none, marking_done, marked_now, already, left_less, itself, executes_next, known_next, unmarked_all}
 use Rattle.call_order.proofs.OrderLemmas.{same_level, pushed, passed, partly_all, level_next}
 
 -- ---- the first that there is
 
-pub first_or_none : (P : ℕ → Type 0) (n : ℕ) → ((i : ℕ) → i < n → P i ⊎ (P i → ⊥)) → ((i : ℕ) × IsFirst P n i) ⊎ HasNone P n
+pub first_or_none : (P : ℕ → Type 0) (n : ℕ) → ((i : ℕ) → i < n → P i ⊎ (P i → ⊥)) → ((i : ℕ) × IsFirstBelow P n i) ⊎ HasNone P n
 first_or_none P zero d = inr (λ i lt. absurd (omega arith))
 first_or_none P (suc n) d =
     elim (first_or_none P n (λ i lt. d i (omega arith))) [
@@ -79,7 +79,7 @@ module _ (g : Graph) where
         | inr none ↦ inr (λ b. shorter b.0 b.1 b.2 none)
       ]
     where
-      shorter : (c : List ℕ) → IsChain g i c → suc n < length (i ∷ c) → ((j : ℕ) → Contains (content_at g i).methods j → BeginsMore g n j → ⊥) → ⊥
+      shorter : (c : List ℕ) → IsCallChain g i c → suc n < length (i ∷ c) → ((j : ℕ) → Contains (content_at g i).methods j → BeginsMore g n j → ⊥) → ⊥
       shorter [] h lt none = omega arith
       shorter (j ∷ c) h lt none = none j h.0 (c, h.1, omega arith)
 

@@ -6,7 +6,7 @@ use Rattle.pap_tree.specs.Flowchart.{Flowchart}
 use Rattle.call_order.specs.Graphs.{Graph, Content, content_of, graph_of, executed}
 use Rattle.call_order.specs.Expanded.{expanded_of, expanded_in}
 use Rattle.call_order.specs.Orders.{IsOrdered}
-use Rattle.call_order.specs.Faults.{IsFirst, last_count, IsTooLong}
+use Rattle.call_order.specs.Faults.{IsFirstBelow, last_count, IsTooLong}
 use Rattle.call_order.specs.private.LevelViews.{level_at, AreLevels, HaveLevels, IsByLevel}
 use Rattle.call_order.specs.private.LengthViews.{length_of, length_with, AreLengths}
 use Rattle.call_order.specs.private.OrderViews.{IsLongFault, IsSorted}
@@ -15,7 +15,7 @@ use Rattle.call_order.proofs.LengthLemmas.{min_sum}
 use Rattle.call_order.proofs.WholeLemmas.{known, body_known, length_graph, expanded_sum, expanded_is}
 
 module _ (f : Flowchart) where
-  pub long_fault : (g : Graph) (ls : List (Option ℕ)) (i : ℕ) → g ≡ graph_of f.methods → AreLevels g 64 ls → IsFirst (λ k. level_at ls k ≡ None) (length ls) i → IsLongFault f g i
+  pub long_fault : (g : Graph) (ls : List (Option ℕ)) (i : ℕ) → g ≡ graph_of f.methods → AreLevels g 64 ls → IsFirstBelow (λ k. level_at ls k ≡ None) (length ls) i → IsLongFault f g i
   long_fault g ls i e levels first = record { graph = e; long = first_chain g ls i levels first }
 
   below : (i : ℕ) → i < length f.methods → i < length (graph_of f.methods)

@@ -5,7 +5,7 @@ use Rattle.std.proofs.lemmas.Bool.{cases_lt, cases_eq}
 use Rattle.std.proofs.lemmas.List.{get_or-set_same, get_or-set_other, length-set}
 use Rattle.std.proofs.lemmas.List.Elements.{All-contains}
 use Rattle.call_order.specs.Graphs.{Graph, Content}
-use Rattle.call_order.specs.Chains.{Executes, IsChain, BeginsMore, content_at}
+use Rattle.call_order.specs.Chains.{Executes, IsCallChain, BeginsMore, content_at}
 use Rattle.call_order.specs.private.LevelViews.{AllKnown, level_at, IsLongest, IsLevel, IsPlaced, AreLevels, AreRaised}
 use Rattle.call_order.proofs.ChainLemmas.{begins-less, begins-more}
 
@@ -25,10 +25,10 @@ placed_more n (Some t) p = omega (arith, p)
 
 module _ (g : Graph) where
   -- one more level: a method all of whose methods have a level of at most n, and one that executes another
-  pub level_up : (n i : ℕ) → BeginsMore g n i → ((j : ℕ) → Executes g i j → (rest : List ℕ) → IsChain g j rest → length rest < n) → IsLongest g (n + 1) i (n + 1)
+  pub level_up : (n i : ℕ) → BeginsMore g n i → ((j : ℕ) → Executes g i j → (rest : List ℕ) → IsCallChain g j rest → length rest < n) → IsLongest g (n + 1) i (n + 1)
   level_up n i b f = record { begins = begins-less g i (n + 1 - 1) n (omega arith) b; ends = ends; few = omega arith }
     where
-      ends : (rest : List ℕ) → IsChain g i rest → length rest < n + 1
+      ends : (rest : List ℕ) → IsCallChain g i rest → length rest < n + 1
       ends [] h = omega arith
       ends (j ∷ rest) h = let l = f j h.0 rest h.1 in omega (arith, l)
 
@@ -37,7 +37,7 @@ module _ (g : Graph) where
   level_kept n i (Some t) some l = record { begins = l.begins; ends = l.ends; few = omega (arith, l.few) }
 
   -- the chains of a method with a level of at most n
-  level_ends : (n m j : ℕ) (level : Option ℕ) → IsLevel g m j level → IsPlaced n level → (rest : List ℕ) → IsChain g j rest → length rest < n
+  level_ends : (n m j : ℕ) (level : Option ℕ) → IsLevel g m j level → IsPlaced n level → (rest : List ℕ) → IsCallChain g j rest → length rest < n
   level_ends n m j None l p = absurd p
   level_ends n m j (Some t) l p = λ rest h. let e = l.ends rest h in omega (arith, e, p)
 
@@ -58,7 +58,7 @@ read_at (y ∷ g) (suc i) x js is lt e = read_at g i x js is (omega arith) e
 
 module _ (g : Graph) (n : ℕ) where
   -- the levels that a round finds, of the methods before i and from i on
-  placed_ends : (i j : ℕ) (ls : List (Option ℕ)) → AreRaised g n i ls → j < length g → IsPlaced n (level_at ls j) → (rest : List ℕ) → IsChain g j rest → length rest < n
+  placed_ends : (i j : ℕ) (ls : List (Option ℕ)) → AreRaised g n i ls → j < length g → IsPlaced n (level_at ls j) → (rest : List ℕ) → IsCallChain g j rest → length rest < n
   placed_ends i j ls r lt p =
       elim (cases_lt j i) [
         | inl b ↦ level_ends g n (n + 1) j (level_at ls j) (r.before j b lt) p

@@ -7,7 +7,7 @@ use Rattle.std.proofs.lemmas.List.Sums.{sum_by-set}
 use Rattle.std.proofs.lemmas.List.Elements.{Contains-get_or, All-contains}
 use Rattle.std.proofs.lemmas.Grind.{get_or_default_zero}
 use Rattle.call_order.specs.Graphs.{Graph}
-use Rattle.call_order.specs.Chains.{Executes, IsChain, Reaches, content_at}
+use Rattle.call_order.specs.Chains.{Executes, IsCallChain, Reaches, content_at}
 use Rattle.call_order.specs.private.LevelViews.{AllKnown}
 use Rattle.call_order.specs.private.MarkViews.{AreMarked, IsMarking, is_marked, left}
 use Rattle.call_order.proofs.ChainLemmas.{reaches-one, reaches-more, closed}
@@ -104,7 +104,7 @@ module _ (g : Graph) where
   pub found : (i m : ℕ) (next : List ℕ) (old new : List Bool) → ((k : ℕ) → is_marked old k ≡ false) → IsMarking g i next m old new → length next ≤ m → next ≡ (content_at g i).methods → (j : ℕ) → Reaches g i j → is_marked new j ≡ true
   found i m next old new none h le is j r = by_chain r.0 r.1
     where
-      by_chain : (c : List ℕ) → IsChain g i (c ++ j ∷ []) → is_marked new j ≡ true
+      by_chain : (c : List ℕ) → IsCallChain g i (c ++ j ∷ []) → is_marked new j ≡ true
       by_chain [] k = all_here i m next old new h le is j k.0
       by_chain (x ∷ c) k = closed g (λ y. is_marked new y ≡ true) (λ y n z ex. h.closed y (none y) n z ex) x j c (all_here i m next old new h le is x k.0) k.1
 

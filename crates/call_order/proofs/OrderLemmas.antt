@@ -14,7 +14,7 @@ use Rattle.call_order.specs.Graphs.{Graph}
 use Rattle.call_order.specs.Chains.{Executes, BeginsMore, ReachesItself, content_at}
 use Rattle.call_order.specs.private.LevelViews.{AllKnown, level_at, IsLongest, IsLevel, IsPlaced, AreLevels, HaveLevels, AreAllPlaced, IsByLevel, IsPassed, IsAhead, IsPartly}
 use Rattle.call_order.specs.Orders.{IsOrder}
-use Rattle.call_order.specs.Faults.{IsFirst}
+use Rattle.call_order.specs.Faults.{IsFirstBelow}
 use Rattle.call_order.proofs.ChainLemmas.{cycle-long}
 use Rattle.call_order.proofs.LevelLemmas.{placed_more}
 
@@ -194,7 +194,7 @@ module _ (g : Graph) (ls : List (Option ℕ)) (levels : AreLevels g 64 ls) (have
       let e = l.2.ends b.0 b.1 in
       omega (arith, e, b.2)
 
-pub first_chain : (g : Graph) (ls : List (Option ℕ)) (i : ℕ) → AreLevels g 64 ls → IsFirst (λ k. level_at ls k ≡ None) (length ls) i → IsFirst (BeginsMore g 64) (length g) i
+pub first_chain : (g : Graph) (ls : List (Option ℕ)) (i : ℕ) → AreLevels g 64 ls → IsFirstBelow (λ k. level_at ls k ≡ None) (length ls) i → IsFirstBelow (BeginsMore g 64) (length g) i
 first_chain g ls i levels h = record {
   below = omega (arith, levels.all, h.below);
   holds = subst (IsLevel g 64 i) h.holds (levels.each i (omega (arith, levels.all, h.below)));

@@ -15,7 +15,7 @@ use Rattle.pap_types.specs.Limits.{longest_chain}
 use Rattle.call_order.specs.Chains.{BeginsMore, content_at}
 use Rattle.call_order.specs.Expanded.{expanded, expanded_of}
 use Rattle.call_order.specs.Orders.{HasNone}
-use Rattle.call_order.specs.Faults.{IsFirst}
+use Rattle.call_order.specs.Faults.{IsFirstBelow}
 use Rattle.call_order.specs.private.LevelViews.{AllKnown}
 use Rattle.call_order.specs.private.LengthViews.{length_of, length_with}
 use Rattle.call_order.proofs.Numbers.{method_number, number_below, by_number}
@@ -99,8 +99,8 @@ abbrev pub BeginsTooMany : Graph → ℕ → Type 0
 BeginsTooMany g i = BeginsMore g longest_chain i
 
 -- what is said of a graph, said of a plan's methods
-pub first_in : (ms : List Routine) (g : Graph) (P : Graph → ℕ → Type 0) (i : ℕ) → g ≡ graph_of ms → IsFirst (P g) (length g) i → IsFirst (P (graph_of ms)) (length ms) i
-first_in ms g P i e h = subst (λ n. IsFirst (P (graph_of ms)) n i) (length_graph ms) (subst (λ x. IsFirst (P x) (length x) i) e h)
+pub first_in : (ms : List Routine) (g : Graph) (P : Graph → ℕ → Type 0) (i : ℕ) → g ≡ graph_of ms → IsFirstBelow (P g) (length g) i → IsFirstBelow (P (graph_of ms)) (length ms) i
+first_in ms g P i e h = subst (λ n. IsFirstBelow (P (graph_of ms)) n i) (length_graph ms) (subst (λ x. IsFirstBelow (P x) (length x) i) e h)
 
 pub none_in : (ms : List Routine) (g : Graph) (P : Graph → ℕ → Type 0) → g ≡ graph_of ms → HasNone (P g) (length g) → HasNone (P (graph_of ms)) (length ms)
 none_in ms g P e h = subst (λ n. HasNone (P (graph_of ms)) n) (length_graph ms) (subst (λ x. HasNone (P x) (length x)) e h)

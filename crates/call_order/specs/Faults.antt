@@ -11,7 +11,7 @@ use Rattle.call_order.specs.Expanded.{expanded_in}
 use Rattle.call_order.specs.Orders.{IsAcyclic, HasShortChains, most_expanded}
 
 -- the first number below n of which P holds
-pub record IsFirst (P : ℕ → Type 0) (n i : ℕ) : Type 0 where
+pub record IsFirstBelow (P : ℕ → Type 0) (n i : ℕ) : Type 0 where
   pub below : i < n
   pub holds : P i
   pub first : (k : ℕ) → k < i → ¬ (P k)
@@ -19,7 +19,7 @@ pub record IsFirst (P : ℕ → Type 0) (n i : ℕ) : Type 0 where
 -- the first declared method of which P holds has the name
 abbrev pub IsFirstMethod : Flowchart → (ℕ → Type 0) → List ℕ → Type 0
 IsFirstMethod f P name =
-    (i : ℕ) × IsFirst P (length f.methods) i × (slice_get (method_names f.methods) i ≡ Some name)
+    (i : ℕ) × IsFirstBelow P (length f.methods) i × (slice_get (method_names f.methods) i ≡ Some name)
 
 -- no method reaches itself, and the first that begins a chain of more than 64
 pub record HasLongChain (f : Flowchart) (name : List ℕ) : Type 0 where

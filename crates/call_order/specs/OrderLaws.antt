@@ -17,7 +17,7 @@ abbrev pub HasFault : Flowchart → Type 0
 HasFault f = (fault : OrderFault) × HasOrderFault f fault
 
 -- each plan has an order or a fault; none has both, and none has two faults
-pub record HaveOneAnswer : Type 0 where
+pub record OrdersHaveOneAnswer : Type 0 where
   pub some : (f : Flowchart) → HasOrder f ⊎ HasFault f
   pub never_both : (f : Flowchart) → HasOrder f → HasFault f → ⊥
   pub one_fault : (f : Flowchart) (a b : OrderFault) → HasOrderFault f a → HasOrderFault f b → a ≡ b

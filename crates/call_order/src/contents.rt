@@ -5,7 +5,7 @@ ghost use Rattle.pap_tree.specs.Flowchart.{body_of, stmt_then, done, flowchart_o
 ghost use Rattle.pap_tree.specs.Limits.{most_methods};
 ghost use Rattle.pap_tree.specs.Statements.{written};
 ghost use Rattle.call_order.specs.Graphs.{content_of, graph_of};
-ghost use Rattle.call_order.specs.Chains.{nothing};
+ghost use Rattle.call_order.specs.Chains.{no_content};
 ghost use Rattle.call_order.specs.private.ContentViews.{IsAdded};
 
 use pap_tree::Stmt;
@@ -31,7 +31,7 @@ impl Model for Contents {
 impl Contents {
     /// No statement.
     fn new(alloc: Global) -> Contents
-        ensures { result ≡ nothing }
+        ensures { result ≡ no_content }
     {
         Contents {
             statements: 0,

@@ -4,7 +4,7 @@ ghost use Rattle.pap_tree.specs.Flowchart.{flowchart_of};
 ghost use Rattle.pap_tree.specs.Limits.{most_methods};
 ghost use Rattle.call_order.specs.Graphs.{graph_of};
 ghost use Rattle.call_order.specs.Expanded.{expanded_in};
-ghost use Rattle.call_order.specs.Faults.{IsFirst, last_count};
+ghost use Rattle.call_order.specs.Faults.{IsFirstBelow, last_count};
 ghost use Rattle.call_order.specs.OrderClauses.{OrderAnswer};
 ghost use Rattle.call_order.specs.private.LevelViews.{level_at, HaveLevels, AreAllPlaced, IsPartly, IsByLevel};
 ghost use Rattle.call_order.specs.private.OrderViews.{IsSorted, ChainsAnswer, IsLongFault};
@@ -66,7 +66,7 @@ fn count_of(alloc: Global, t: &Typed, graph: &[Contents], order: &[u32]) -> Resu
 /// The first method without a level.
 fn first_long(levels: &[Option<u32>]) -> Option<usize>
     ensures { MatchOption result (HaveLevels levels.now)
-        (λ i. IsFirst (λ k. level_at levels.now k ≡ None) (length levels.now) i) }
+        (λ i. IsFirstBelow (λ k. level_at levels.now k ≡ None) (length levels.now) i) }
 {
     levels.iter().position(|level| level.is_none())
 }

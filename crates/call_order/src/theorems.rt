@@ -1,7 +1,7 @@
 //! Laws of the order of methods and of the bound on chains.
 ghost use Rattle.call_order.specs.ChainLaws.{ChainsClose};
 ghost use Rattle.call_order.specs.Executed.{OrdersHaveCalls};
-ghost use Rattle.call_order.specs.OrderLaws.{HaveOneAnswer, HaveSmallBounds};
+ghost use Rattle.call_order.specs.OrderLaws.{OrdersHaveOneAnswer, HaveSmallBounds};
 
 /// Where no chain has more than 64 methods, what a method does, costs at most and how long it is are those of its body, and
 /// a greater bound on chains changes nothing.
@@ -11,7 +11,7 @@ pub fn chain_laws()
 
 /// A plan has an order or a fault, never both, and one fault. What a method executes stands before it in an order.
 pub fn order_laws()
-    ensures one_answer { HaveOneAnswer }
+    ensures one_answer { OrdersHaveOneAnswer }
     ensures calls { OrdersHaveCalls }
 {}
 

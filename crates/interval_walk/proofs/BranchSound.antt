@@ -21,7 +21,7 @@ use Rattle.pap_types.specs.Operations.{holds_of, is_zero}
 use Rattle.pap_types.specs.Values.{Env, look, value}
 use Rattle.interval_walk.specs.Ranges.{Ranges, range_named, put_range}
 use Rattle.interval_walk.specs.Branches.{Sides, signs_where, others, exchanged, can_have, narrowed_name, narrowed, branch_of}
-use Rattle.interval_walk.specs.Soundness.{AreWithin, Reaches}
+use Rattle.interval_walk.specs.Soundness.{AreWithin, AreReachedWithin}
 use Rattle.interval_walk.proofs.EnvLemmas.{look_inside, within_narrow}
 
 -- ---- signs
@@ -151,7 +151,7 @@ module _ (t : Bool) (allowed : SignSet) (e : Interval) (rs rs1 : Ranges) where
 -- ---- a side
 
 module _ (scope : Scope) (t : Bool) (allowed : SignSet) (e : Interval) (rs : Ranges) (env : Env) (x y : Decimal) (w : AreWithin rs env) (hy : Contains e y) (sign : HasSign allowed x y) (we : OnTrue t (IsWhole e)) where
-  name_narrowed : (n : List ℕ) (o : Option Interval) → range_named rs n ≡ o → value scope (leaf (named n)) env ≡ Some x → ((v : Interval) → range_named rs n ≡ Some v → OnTrue t (IsWhole v)) → Reaches (narrowed_name t allowed n e rs o) env
+  name_narrowed : (n : List ℕ) (o : Option Interval) → range_named rs n ≡ o → value scope (leaf (named n)) env ≡ Some x → ((v : Interval) → range_named rs n ≡ Some v → OnTrue t (IsWhole v)) → AreReachedWithin (narrowed_name t allowed n e rs o) env
   name_narrowed n None f is wv = record { ranges = rs; is = refl; inside = w }
   name_narrowed n (Some v) f is wv =
       let l = look_inside rs env n v w f in
@@ -162,11 +162,11 @@ module _ (scope : Scope) (t : Bool) (allowed : SignSet) (e : Interval) (rs : Ran
       let found_at : look env n ≡ Some x = g ∙ ap Some same in
       by_part v found_at (wv v f) (record { is = inside; other = y; of = hy; sign = sign }) (refined v e allowed t) refl
     where
-      by_part : (v : Interval) → look env n ≡ Some x → OnTrue t (IsWhole v) → IsAllowed v e allowed x → (o : Option Interval) → refined v e allowed t ≡ o → Reaches (option_map (put_range rs n) o) env
+      by_part : (v : Interval) → look env n ≡ Some x → OnTrue t (IsWhole v) → IsAllowed v e allowed x → (o : Option Interval) → refined v e allowed t ≡ o → AreReachedWithin (option_map (put_range rs n) o) env
       by_part v g wv h (Some r) p = record { ranges = put_range rs n r; is = refl; inside = within_narrow rs env n r x w g (refinement_sound v e r allowed t wv we p x h) }
       by_part v g wv h None p = absurd (none_allowed v e allowed t wv we p x h)
 
-  pub side_narrowed : (s : Term) → value scope s env ≡ Some x → FoundWhole t s rs → Reaches (narrowed t allowed s e rs) env
+  pub side_narrowed : (s : Term) → value scope s env ≡ Some x → FoundWhole t s rs → AreReachedWithin (narrowed t allowed s e rs) env
   side_narrowed (leaf (named n)) is wv = name_narrowed n (range_named rs n) refl is wv
   side_narrowed (leaf (whole i)) is wv = record { ranges = rs; is = refl; inside = w }
   side_narrowed (leaf (long i)) is wv = record { ranges = rs; is = refl; inside = w }
@@ -195,7 +195,7 @@ pub record SidesWhole (t : Bool) (s : Sides) (rs : Ranges) : Type 0 where
   pub right_range : OnTrue t (IsWhole s.right_range)
 
 -- the branch of the sign that the values have
-pub branch_reached : (scope : Scope) (t : Bool) (allowed : SignSet) (s : Sides) (rs : Ranges) (env : Env) (x y : Decimal) → AreWithin rs env → SidesHold scope s env x y → SidesWhole t s rs → HasSign allowed x y → Reaches (branch_of t allowed s rs) env
+pub branch_reached : (scope : Scope) (t : Bool) (allowed : SignSet) (s : Sides) (rs : Ranges) (env : Env) (x y : Decimal) → AreWithin rs env → SidesHold scope s env x y → SidesWhole t s rs → HasSign allowed x y → AreReachedWithin (branch_of t allowed s rs) env
 branch_reached scope t allowed s rs env x y w h k sign =
     let can = common_sign allowed (signs_of s.left_range s.right_range) (value_order x y) sign (signs_sound s.left_range s.right_range x y h.left_inside h.right_inside) in
     let first = side_narrowed scope t allowed s.right_range rs env x y w h.right_inside sign k.right_range s.left h.left k.left in
@@ -209,8 +209,8 @@ branch_reached scope t allowed s rs env x y w h k sign =
 
 -- the branches of a comparison, of which the truth takes one
 pub record BranchesHold (t : Bool) (allowed : SignSet) (s : Sides) (rs : Ranges) (env : Env) (b : Bool) : Type 0 where
-  pub holds : is_zero (truth b) ≡ false → Reaches (branch_of t allowed s rs) env
-  pub fails : is_zero (truth b) ≡ true → Reaches (branch_of t (others allowed) s rs) env
+  pub holds : is_zero (truth b) ≡ false → AreReachedWithin (branch_of t allowed s rs) env
+  pub fails : is_zero (truth b) ≡ true → AreReachedWithin (branch_of t (others allowed) s rs) env
 
 pub branches_hold : (scope : Scope) (t : Bool) (allowed : SignSet) (s : Sides) (rs : Ranges) (env : Env) (x y : Decimal) → AreWithin rs env → SidesHold scope s env x y → SidesWhole t s rs → (b : Bool) → (b ≡ true → HasSign allowed x y) → (b ≡ false → HasSign (others allowed) x y) → BranchesHold t allowed s rs env b
 branches_hold scope t allowed s rs env x y w h k true if_true if_false = record { holds = λ _. branch_reached scope t allowed s rs env x y w h k (if_true refl); fails = λ never. absurd (cc) }

@@ -8,7 +8,7 @@ use Rattle.pap_types.specs.Operations.{is_zero}
 use Rattle.pap_types.specs.Values.{Env}
 use Rattle.pap_types.proofs.Laws.{has_types}
 use Rattle.interval_walk.specs.Ranges.{Ranges}
-use Rattle.interval_walk.specs.Soundness.{AreWithin, Reaches, IsFilled, SomeBranchIsReached}
+use Rattle.interval_walk.specs.Soundness.{AreWithin, AreReachedWithin, IsFilled, SomeBranchIsReached}
 use Rattle.interval_walk.specs.private.Soundness.{AreVariables}
 use Rattle.interval_walk.proofs.EnvLemmas.{look_none}
 use Rattle.interval_walk.proofs.RowLaws.{low_inside}
@@ -27,7 +27,7 @@ lows_inside (v ∷ vs) h =
     let here = All-head (λ v. IsFilled v.range) v vs h in
     (refl, low_inside v.range here.order here.scales, lows_inside vs (All-tail (λ v. IsFilled v.range) v vs h))
 
-some_reached : {o : Option Ranges} {env : Env} → Reaches o env → is_some o ≡ true
+some_reached : {o : Option Ranges} {env : Env} → AreReachedWithin o env → is_some o ≡ true
 some_reached h = let i = h.is in rw i refl
 
 either_right : (t : Bool) → (t || true) ≡ true
@@ -42,6 +42,6 @@ some_branch f t at rs br typed typed_term keeps filled e =
     let h = test_sound (scope_of f) (sound_scope f (has_types f typed)) env only t at rs br within typed_term keeps e in
     by_value h.gives h.holds h.fails (is_zero h.gives) refl
   where
-    by_value : (v : Decimal) → (is_zero v ≡ false → Reaches br.holds (lows rs)) → (is_zero v ≡ true → Reaches br.fails (lows rs)) → (z : Bool) → is_zero v ≡ z → IsTrue (is_some br.holds || is_some br.fails)
+    by_value : (v : Decimal) → (is_zero v ≡ false → AreReachedWithin br.holds (lows rs)) → (is_zero v ≡ true → AreReachedWithin br.fails (lows rs)) → (z : Bool) → is_zero v ≡ z → IsTrue (is_some br.holds || is_some br.fails)
     by_value v holds fails false z = rw (some_reached (holds z)) refl
     by_value v holds fails true z = rw (some_reached (fails z)) (either_right (is_some br.holds))

@@ -25,7 +25,7 @@ use Rattle.interval_walk.specs.Failures.{NodeFault, and_then, at_node}
 use Rattle.interval_walk.specs.NodeRanges.{comparison_range}
 use Rattle.interval_walk.specs.Branches.{Branches, Sides, sides, signs_where, compared, opposite, reached, before, both_hold, one_holds, either_way}
 use Rattle.interval_walk.specs.Ranged.{are_whole}
-use Rattle.interval_walk.specs.Soundness.{AreWithin, Reaches, TermHolds, TestHolds}
+use Rattle.interval_walk.specs.Soundness.{AreWithin, AreReachedWithin, TermHolds, TestHolds}
 use Rattle.interval_walk.proofs.NodeShapes.{stepped, passed_node}
 use Rattle.interval_walk.proofs.ScopeLemmas.{int_literal_is}
 use Rattle.interval_walk.proofs.BranchSound.{sign_holds, sign_fails, order_of_number, FoundWhole, SidesHold, SidesWhole, branches_hold}
@@ -100,7 +100,7 @@ module _ (scope : Scope) (op : Binary) (e f : Term) (rs : Ranges) (env : Env) (a
   holds_here : Bool
   holds_here = holds_of op (value_order he.gives hf.gives)
 
-  test_of : (br : Branches) → (is_zero (truth (holds_of op (value_order he.gives hf.gives))) ≡ false → Reaches br.holds env) → (is_zero (truth (holds_of op (value_order he.gives hf.gives))) ≡ true → Reaches br.fails env) → TestHolds scope (two (operator op) e f) env br
+  test_of : (br : Branches) → (is_zero (truth (holds_of op (value_order he.gives hf.gives))) ≡ false → AreReachedWithin br.holds env) → (is_zero (truth (holds_of op (value_order he.gives hf.gives))) ≡ true → AreReachedWithin br.fails env) → TestHolds scope (two (operator op) e f) env br
   test_of br yes' no' =
       let c = is_comparison op a b r row in
       let x = he.gives in
@@ -170,10 +170,10 @@ module _ (scope : Scope) (e : Term) (env : Env) (br : Branches) (h : TestHolds s
         fails = λ _. h.holds z;
       }
 
-before_left : (rs : Ranges) (env : Env) (o p : Option Ranges) → AreWithin rs env → Reaches o env → Reaches (before rs o p) env
+before_left : (rs : Ranges) (env : Env) (o p : Option Ranges) → AreWithin rs env → AreReachedWithin o env → AreReachedWithin (before rs o p) env
 before_left rs env o p w h = record { ranges = rs; is = ap (λ o. before rs o p) h.is; inside = w }
 
-before_right : (rs : Ranges) (env : Env) (o p : Option Ranges) → AreWithin rs env → Reaches p env → Reaches (before rs o p) env
+before_right : (rs : Ranges) (env : Env) (o p : Option Ranges) → AreWithin rs env → AreReachedWithin p env → AreReachedWithin (before rs o p) env
 before_right rs env o p w h = record { ranges = rs; is = ap (λ p. before rs o p) h.is ∙ ap (λ t. if t then Some rs else None) (either_true (is_some o)); inside = w }
   where
     either_true : (t : Bool) → (t || true) ≡ true
@@ -243,10 +243,10 @@ module _ (scope : Scope) (e f : Term) (rs : Ranges) (env : Env) (left right : Br
 -- ---- conditionals
 
 -- a branch that is reached is the one that is known
-pub reached_same : {o : Option Ranges} {env : Env} (rs : Ranges) → o ≡ Some rs → Reaches o env → AreWithin rs env
+pub reached_same : {o : Option Ranges} {env : Env} (rs : Ranges) → o ≡ Some rs → AreReachedWithin o env → AreWithin rs env
 reached_same rs f h = let i = h.is in let same : h.ranges ≡ rs = cc in subst (λ s. AreWithin s _) same h.inside
 
-pub never_reached : {o : Option Ranges} {env : Env} → o ≡ None → Reaches o env → ⊥
+pub never_reached : {o : Option Ranges} {env : Env} → o ≡ None → AreReachedWithin o env → ⊥
 never_reached f h = let i = h.is in cc
 
 module _ (scope : Scope) (c e f : Term) (env : Env) (br : Branches) (r : Interval) (h : TestHolds scope c env br) where

@@ -32,7 +32,7 @@ AreWithin (r ∷ rs) (v ∷ vs) = (r.name ≡ v.name) × Contains r.range v.valu
 AreWithin _ _ = ⊥
 
 -- ranges of the variables that can be reached, in which their values lie
-pub record Reaches (o : Option Ranges) (env : Env) : Type 0 where
+pub record AreReachedWithin (o : Option Ranges) (env : Env) : Type 0 where
   pub ranges : Ranges
   pub is : o ≡ Some ranges
   pub inside : AreWithin ranges env
@@ -50,8 +50,8 @@ module _ (scope : Scope) where
     pub safe : IsSafe scope t env
     pub gives : Decimal
     pub is : value scope t env ≡ Some gives
-    pub holds : is_zero gives ≡ false → Reaches br.holds env
-    pub fails : is_zero gives ≡ true → Reaches br.fails env
+    pub holds : is_zero gives ≡ false → AreReachedWithin br.holds env
+    pub fails : is_zero gives ≡ true → AreReachedWithin br.fails env
 
 -- ---- the whole
 

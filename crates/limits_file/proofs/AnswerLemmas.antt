@@ -10,7 +10,7 @@ use Rattle.limits_file.specs.declared.limits.InputLimit.{InputLimit}
 use Rattle.limits_file.specs.declared.limits.Binding.{Binding}
 use Rattle.limits_file.specs.private.AnswerViews.{Tells}
 use Rattle.limits_file.specs.Labels.{label_of}
-use Rattle.limits_file.specs.Entries.{Form, has_key, first_unsuited, failing_key}
+use Rattle.limits_file.specs.Entries.{EntryForm, has_key, first_unsuited, failing_key}
 use Rattle.limits_file.specs.Inputs.{input_form, InputSays, GivesNoLimit}
 use Rattle.limits_file.specs.Bindings.{binding_form, BindingSays}
 
@@ -22,7 +22,7 @@ pub not_false : {b : Bool} → not b ≡ false → b ≡ true
 not_false {b = true} h = refl
 not_false {b = false} h = absurd (cc h)
 
-module _ (form : Form) (name : List ℕ) (entry : Members) where
+module _ (form : EntryForm) (name : List ℕ) (entry : Members) where
   pub misnamed : is_name name ≡ false → failing_key form name (table entry) ≡ Some name
   misnamed e = rw e refl
 

@@ -12,7 +12,7 @@ use Rattle.limits_file.specs.declared.limits.Carry.TheVariants.{Sum, Last, Count
 use Rattle.limits_file.specs.declared.limits.Binding.{Binding}
 use Rattle.limits_file.specs.Labels.{label_of}
 use Rattle.limits_file.specs.Faults.{Fault, too_long, no_toml, bad_key, bad_bound}
-use Rattle.limits_file.specs.Entries.{has_key, text_at, first_unsuited, entry_of, failing_key}
+use Rattle.limits_file.specs.Entries.{has_key, text_at, first_unsuited, entry_members, failing_key}
 use Rattle.limits_file.specs.Bindings.{is_count, is_kind, suits_binding, binding_form, IsCarryOf, BindingSays}
 use Rattle.limits_file.specs.private.BindingViews.{is_whole, GivesCarry}
 use Rattle.limits_file.proofs.WalkLemmas.{SaysOne, SaysSome}
@@ -46,7 +46,7 @@ key_once : (label label' : List ℕ) (found : Option (List ℕ)) → option_map 
 key_once label label' found h h' = cc
 
 pub binding_once : SaysOne BindingSays
-binding_once n name value (Ok b) (Ok c) h h' = ap Ok (same_binding b c (h.1 ∙ sym h'.1) (carry_once (entry_of value) b.carry c.carry h.2 h'.2))
+binding_once n name value (Ok b) (Ok c) h h' = ap Ok (same_binding b c (h.1 ∙ sym h'.1) (carry_once (entry_members value) b.carry c.carry h.2 h'.2))
 binding_once n name value (Ok b) (Err (bad_key k)) h h' = absurd (no_key k _ h.0 h')
 binding_once n name value (Ok b) (Err (bad_bound k)) h h' = absurd h'
 binding_once n name value (Ok b) (Err too_long) h h' = absurd h'
@@ -199,5 +199,5 @@ binding_some n name value = at (failing_key binding_form name value) refl where
   at (Some key) e = (Err (bad_key (label_of key)), ap (option_map label_of) e)
   at None e =
       let whole = subst (λ v. failing_key binding_form name v ≡ None) (is_table binding_form name value e) e in
-      let carry = carry_some name (entry_of value) (fit binding_form name (entry_of value) whole) in
+      let carry = carry_some name (entry_members value) (fit binding_form name (entry_members value) whole) in
       (Ok (record { input = name; carry = carry.0 }), (e, refl, carry.1))

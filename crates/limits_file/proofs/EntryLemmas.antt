@@ -8,7 +8,7 @@ use Rattle.std.proofs.lemmas.Slice.Eq.{bytes_eq-Decides}
 use Rattle.std.proofs.lemmas.Map.Text.{is_eq-slice_cmp}
 use Rattle.toml.specs.Data.{Data, table, string, integer, float, boolean, datetime, array, Members, no_members, member, get_member}
 use Rattle.pap_tree.specs.Names.{is_name}
-use Rattle.limits_file.specs.Entries.{Form, has_key, first_unsuited, entry_of, failing_key}
+use Rattle.limits_file.specs.Entries.{EntryForm, has_key, first_unsuited, entry_members, failing_key}
 
 -- two texts that compare as equal are one text
 same_text : (k l : List ℕ) → is_eq (slice_cmp nat_cmp k l) ≡ true → k ≡ l
@@ -32,7 +32,7 @@ module _ (suits : List ℕ → Data → Bool) where
       found_at (slice_cmp nat_cmp k l) k l v d (get_member k rest) (same_text k l) parts.0 (suited rest k d parts.1) e
 
 -- an entry of which no key fails
-pub record IsFit (form : Form) (name : List ℕ) (entry : Members) : Type 0 where
+pub record IsFit (form : EntryForm) (name : List ℕ) (entry : Members) : Type 0 where
   pub named : is_name name ≡ true
   pub suited : first_unsuited (form.suits entry) entry ≡ None
   pub whole : list_all (has_key entry) (form.needed entry) ≡ true
@@ -43,13 +43,13 @@ fit_parts true None false x e = absurd (cc e)
 fit_parts true (Some y) c x e = absurd (cc e)
 fit_parts false o c x e = absurd (cc e)
 
-pub fit : (form : Form) (name : List ℕ) (entry : Members) → failing_key form name (table entry) ≡ None → IsFit form name entry
+pub fit : (form : EntryForm) (name : List ℕ) (entry : Members) → failing_key form name (table entry) ≡ None → IsFit form name entry
 fit form name entry e =
     let parts = fit_parts (is_name name) (first_unsuited (form.suits entry) entry) (list_all (has_key entry) (form.needed entry)) name e in
     record { named = parts.0; suited = parts.1; whole = parts.2 }
 
 -- an entry that is no table fails
-pub is_table : (form : Form) (name : List ℕ) (value : Data) → failing_key form name value ≡ None → value ≡ table (entry_of value)
+pub is_table : (form : EntryForm) (name : List ℕ) (value : Data) → failing_key form name value ≡ None → value ≡ table (entry_members value)
 is_table form name (table entry) e = refl
 is_table form name (string s) e = absurd (cc e)
 is_table form name (integer z) e = absurd (cc e)

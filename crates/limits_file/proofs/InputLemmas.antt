@@ -12,7 +12,7 @@ use Rattle.limits_file.specs.declared.limits.InputLimit.{InputLimit}
 use Rattle.limits_file.specs.Labels.{label_of}
 use Rattle.limits_file.specs.Limits.{HasSoundBounds}
 use Rattle.limits_file.specs.Faults.{Fault, too_long, no_toml, bad_key, bad_bound}
-use Rattle.limits_file.specs.Entries.{entry_of, failing_key}
+use Rattle.limits_file.specs.Entries.{entry_members, failing_key}
 use Rattle.limits_file.specs.Inputs.{input_form, IsBound, IsBoundAt, IsLimitOf, GivesNoLimit, InputSays}
 use Rattle.limits_file.proofs.WalkLemmas.{SaysOne, SaysSome}
 
@@ -56,9 +56,9 @@ no_bound n name entry l few h (inl many) = absurd (omega arith)
 no_bound n name entry l few h (inr none) = none l h
 
 pub input_once : SaysOne InputSays
-input_once n name value (Ok l) (Ok m) h h' = ap Ok (limit_once name (entry_of value) l m h.2 h'.2)
+input_once n name value (Ok l) (Ok m) h h' = ap Ok (limit_once name (entry_members value) l m h.2 h'.2)
 input_once n name value (Ok l) (Err (bad_key k)) h h' = absurd (no_key k _ h.0 h')
-input_once n name value (Ok l) (Err (bad_bound k)) h h' = absurd (no_bound n name (entry_of value) l h.1 h.2 h'.2)
+input_once n name value (Ok l) (Err (bad_bound k)) h h' = absurd (no_bound n name (entry_members value) l h.1 h.2 h'.2)
 input_once n name value (Ok l) (Err too_long) h h' = absurd h'
 input_once n name value (Ok l) (Err no_toml) h h' = absurd h'
 input_once n name value (Err (bad_key k)) (Ok m) h h' = absurd (no_key k _ h'.0 h)
@@ -66,7 +66,7 @@ input_once n name value (Err (bad_key k)) (Err (bad_key k')) h h' = ap (λ x. Er
 input_once n name value (Err (bad_key k)) (Err (bad_bound k')) h h' = absurd (no_key k _ h'.0 h)
 input_once n name value (Err (bad_key k)) (Err too_long) h h' = absurd h'
 input_once n name value (Err (bad_key k)) (Err no_toml) h h' = absurd h'
-input_once n name value (Err (bad_bound k)) (Ok m) h h' = absurd (no_bound n name (entry_of value) m h'.1 h'.2 h.2)
+input_once n name value (Err (bad_bound k)) (Ok m) h h' = absurd (no_bound n name (entry_members value) m h'.1 h'.2 h.2)
 input_once n name value (Err (bad_bound k)) (Err (bad_key k')) h h' = absurd (no_key k' _ h.0 h')
 input_once n name value (Err (bad_bound k)) (Err (bad_bound k')) h h' = ap (λ x. Err (bad_bound x)) (h.1 ∙ sym h'.1)
 input_once n name value (Err (bad_bound k)) (Err too_long) h h' = absurd h'
@@ -177,7 +177,7 @@ input_some n name value = at (failing_key input_form name value) refl where
   at (Some key) e = (Err (bad_key (label_of key)), ap (option_map label_of) e)
   at None e = elim (cases_lt n most_inputs) [
     | inr many ↦ (Err (bad_bound (label_of name)), (e, refl, inl many))
-    | inl few ↦ elim (limit_decided name (entry_of value)) [
+    | inl few ↦ elim (limit_decided name (entry_members value)) [
       | inl found ↦ (Ok found.0, (e, few, found.1))
       | inr none ↦ (Err (bad_bound (label_of name)), (e, refl, inr (λ l h. none (l, h))))
     ]

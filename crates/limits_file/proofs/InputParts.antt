@@ -5,7 +5,7 @@ use Rattle.toml.specs.Data.{Data, Members, get_member}
 use Rattle.scaled_decimal.specs.Decimals.{Decimal}
 use Rattle.limits_file.specs.declared.limits.InputLimit.{InputLimit}
 use Rattle.limits_file.specs.Limits.{HasSoundBounds}
-use Rattle.limits_file.specs.Inputs.{IsBound, IsBoundAt, GivesNoLimit, HasNoBoundAt, HasPlaces, HasNoPlaces}
+use Rattle.limits_file.specs.Inputs.{IsBound, IsBoundAt, GivesNoLimit, HasNoBoundAt, SaysPlaces, HasNoPlaces}
 use Rattle.limits_file.proofs.InputLemmas.{bound_at_once, same_limit, same_places}
 
 pub no_value : (key : List ℕ) (entry : Members) → get_member key entry ≡ None → HasNoBoundAt key entry
@@ -27,7 +27,7 @@ high_missing name entry none limit h = none limit.high h.high
 pub places_missing : (name : List ℕ) (entry : Members) → HasNoPlaces entry → GivesNoLimit name entry
 places_missing name entry none limit h = let few = h.sound.places in none limit.places (omega arith) h.places
 
-pub unsound : (name : List ℕ) (entry : Members) (limit : InputLimit) → limit.name ≡ name → IsBoundAt (codes "low") entry limit.low → IsBoundAt (codes "high") entry limit.high → HasPlaces entry limit.places → (HasSoundBounds limit → ⊥) → GivesNoLimit name entry
+pub unsound : (name : List ℕ) (entry : Members) (limit : InputLimit) → limit.name ≡ name → IsBoundAt (codes "low") entry limit.low → IsBoundAt (codes "high") entry limit.high → SaysPlaces entry limit.places → (HasSoundBounds limit → ⊥) → GivesNoLimit name entry
 unsound name entry limit named low high places broken other h =
     let same = same_limit other limit (h.named ∙ sym named) (bound_at_once _ entry _ _ h.low low) (bound_at_once _ entry _ _ h.high high) (same_places _ _ _ h.places places) in
     broken (subst HasSoundBounds same h.sound)

@@ -13,7 +13,7 @@ use Rattle.limits_file.specs.Walks.{TableSays}
 use Rattle.limits_file.specs.Inputs.{InputSays}
 use Rattle.limits_file.specs.Bindings.{BindingSays}
 use Rattle.limits_file.specs.Limits.{longest_limits}
-use Rattle.limits_file.specs.RangeFiles.{with_inputs, with_bindings, joined, SectionSays, IsNoToml, IsToml, FileSays}
+use Rattle.limits_file.specs.RangeFiles.{with_inputs, with_bindings, joined_limits, SectionSays, IsNoToml, IsToml, FileSays}
 use Rattle.limits_file.proofs.WalkLemmas.{SaysOne, SaysSome, table_once, table_some, table_fault}
 use Rattle.limits_file.proofs.InputLemmas.{input_once, input_some}
 use Rattle.limits_file.proofs.BindingLemmas.{binding_once, binding_some}
@@ -101,7 +101,7 @@ section_inside n key (array v) f h = key_inside f (label_of key) h
 
 -- what the table of a file says
 TextSays : List ℕ → Result Limits Fault → Type 0
-TextSays bytes answer = (file : Members) × IsToml bytes file × TableSays SectionSays joined file answer
+TextSays bytes answer = (file : Members) × IsToml bytes file × TableSays SectionSays joined_limits file answer
 
 text_once : (bytes : List ℕ) (x y : Result Limits Fault) → TextSays bytes x → TextSays bytes y → x ≡ y
 unfolding TextSays
@@ -109,7 +109,7 @@ text_once bytes x y h h' =
     let parsed = h.1.parsed in
     let parsed' = h'.1.parsed in
     let same : h'.0 ≡ h.0 = cc in
-    table_once SectionSays section_once joined h.0 x y h.2 (subst (λ file. TableSays SectionSays joined file y) same h'.2)
+    table_once SectionSays section_once joined_limits h.0 x y h.2 (subst (λ file. TableSays SectionSays joined_limits file y) same h'.2)
 
 text_not_refused : (bytes : List ℕ) (x : Result Limits Fault) → TextSays bytes x → IsNoToml bytes → ⊥
 unfolding TextSays
@@ -147,7 +147,7 @@ file_once bytes (Ok l) (Err (bad_key k)) h h' = text_once bytes (Ok l) (Err (bad
 file_once bytes (Ok l) (Err (bad_bound k)) h h' = text_once bytes (Ok l) (Err (bad_bound k)) h h'
 file_once bytes (Ok l) (Ok m) h h' = text_once bytes (Ok l) (Ok m) h h'
 
-file_from : (bytes : List ℕ) (file : Members) → IsToml bytes file → (x : Result Limits Fault) → TableSays SectionSays joined file x → (y : Result Limits Fault) × FileSays bytes y
+file_from : (bytes : List ℕ) (file : Members) → IsToml bytes file → (x : Result Limits Fault) → TableSays SectionSays joined_limits file x → (y : Result Limits Fault) × FileSays bytes y
 unfolding IsInside
 file_from bytes file toml (Ok l) h = (Ok l, (file, toml, h))
 file_from bytes file toml (Err (bad_key k)) h = (Err (bad_key k), (file, toml, h))
@@ -165,16 +165,16 @@ file_some bytes = elim (cases_lt longest_limits (length bytes)) [
   at short (Some file) e = elim (cases_Bool (is_utf8 bytes)) [
     | inl good ↦ (
         let toml : IsToml bytes file = record { short = short; text = IsUtf8-from_is_utf8 bytes good; parsed = e } in
-        let says = table_some SectionSays section_some joined file in
+        let says = table_some SectionSays section_some joined_limits file in
         file_from bytes file toml says.0 says.1)
     | inr bad ↦ (Err no_toml, record { short = short; refused = λ text. absurd (false≢true (sym bad ∙ is_utf8-from_IsUtf8 bytes text)) })
   ]
 
 -- the faults of a whole text are none of its table's
-pub never_long : (file : Members) → TableSays SectionSays joined file (Err too_long) → ⊥
+pub never_long : (file : Members) → TableSays SectionSays joined_limits file (Err too_long) → ⊥
 unfolding IsInside
 never_long file h = table_fault SectionSays IsInside section_inside 0 file too_long h
 
-pub never_refused : (file : Members) → TableSays SectionSays joined file (Err no_toml) → ⊥
+pub never_refused : (file : Members) → TableSays SectionSays joined_limits file (Err no_toml) → ⊥
 unfolding IsInside
 never_refused file h = table_fault SectionSays IsInside section_inside 0 file no_toml h

@@ -27,7 +27,7 @@ use Rattle.limits_file.specs.Faults.{Fault, bad_key}
 use Rattle.limits_file.specs.Walks.{AllOrFirstFault, TableSays}
 use Rattle.limits_file.specs.Inputs.{InputSays}
 use Rattle.limits_file.specs.Bindings.{BindingSays}
-use Rattle.limits_file.specs.RangeFiles.{with_inputs, with_bindings, joined, SectionSays, NamesAscend, AreInOrder}
+use Rattle.limits_file.specs.RangeFiles.{with_inputs, with_bindings, joined_limits, SectionSays, NamesAscend, NamesAreInOrder}
 use Rattle.limits_file.proofs.WalkLemmas.{GoesOn, begins, goes_on, stops, ends}
 use Rattle.limits_file.proofs.LoopLemmas.{tells_fault}
 use Rattle.limits_file.proofs.OrderLemmas.{Entries}
@@ -40,16 +40,16 @@ LacksKey key es = AllByRecursion (λ k. string_bytes k ≢ key) (keys_of es)
 pub record Progress (es all : Entries) (limits : Limits) : Type 0 where
   pub parts : List Limits
   pub goes : GoesOn SectionSays parts (members_view es) (members_view all)
-  pub whole : joined parts ≡ limits
+  pub whole : joined_limits parts ≡ limits
   pub keys : IsStrictlySortedBy string_cmp (keys_of es)
   pub bindings_last : (limits.bindings ≡ []) ⊎ LacksKey (codes "bind") es
   pub inputs_last : (limits.inputs ≡ []) ⊎ LacksKey (codes "input") es
-  pub ordered : AreInOrder limits
+  pub ordered : NamesAreInOrder limits
 
 none : Limits
 none = record { inputs = []; bindings = [] }
 
-in_order_none : AreInOrder none
+in_order_none : NamesAreInOrder none
 unfolding none IsStrictlySortedBy
 in_order_none = record { inputs = tt; bindings = tt }
 
@@ -84,7 +84,7 @@ sorted_tail key ks h = h.1
 pub same_limits : (l m : Limits) → l.inputs ≡ m.inputs → l.bindings ≡ m.bindings → l ≡ m
 same_limits l m inputs bindings = λ i. record { inputs = inputs i; bindings = bindings i }
 
-joined_more : (parts : List Limits) (part : Limits) → joined (parts ++ part ∷ []) ≡ record { inputs = (joined parts).inputs ++ part.inputs; bindings = (joined parts).bindings ++ part.bindings }
+joined_more : (parts : List Limits) (part : Limits) → joined_limits (parts ++ part ∷ []) ≡ record { inputs = (joined_limits parts).inputs ++ part.inputs; bindings = (joined_limits parts).bindings ++ part.bindings }
 joined_more parts part = same_limits _ _
     (flat_map-append (λ p. p.inputs) parts (part ∷ []) ∙ ap (λ xs. flat_map (λ p. p.inputs) parts ++ xs) (append-nil part.inputs))
     (flat_map-append (λ p. p.bindings) parts (part ∷ []) ∙ ap (λ xs. flat_map (λ p. p.bindings) parts ++ xs) (append-nil part.bindings))
@@ -108,13 +108,13 @@ module _ (es all : Entries) (limits : Limits) (key : String Global) (value : Val
   section_goes : (part : Limits) → ((n : ℕ) → SectionSays n (string_bytes key) (view value) (Ok part)) → GoesOn SectionSays (here.parts ++ part ∷ []) (members_view rest) (members_view all)
   section_goes part h = goes_on SectionSays here.parts (string_bytes key) (view value) (members_view rest) (members_view all) part (h (length here.parts)) here.goes
 
-  section_whole : (part : Limits) → joined (here.parts ++ part ∷ []) ≡ record { inputs = limits.inputs ++ part.inputs; bindings = limits.bindings ++ part.bindings }
+  section_whole : (part : Limits) → joined_limits (here.parts ++ part ∷ []) ≡ record { inputs = limits.inputs ++ part.inputs; bindings = limits.bindings ++ part.bindings }
   section_whole part = joined_more here.parts part ∙ ap (λ l. with_more l part) here.whole where
     with_more : Limits → Limits → Limits
     with_more l p = record { inputs = l.inputs ++ p.inputs; bindings = l.bindings ++ p.bindings }
 
   -- a key that is none of the two, or no table
-  pub stranger : (e : LimitsFault) → e ≡ answered.Key (label_of (string_bytes key)) → ((n : ℕ) → SectionSays n (string_bytes key) (view value) (Err (bad_key (label_of (string_bytes key))))) → Tells (TableSays SectionSays joined (members_view all)) (Err e)
+  pub stranger : (e : LimitsFault) → e ≡ answered.Key (label_of (string_bytes key)) → ((n : ℕ) → SectionSays n (string_bytes key) (view value) (Err (bad_key (label_of (string_bytes key))))) → Tells (TableSays SectionSays joined_limits (members_view all)) (Err e)
   stranger e made h = rw made (section_stops (bad_key (label_of (string_bytes key))) h)
 
   -- `bind`
@@ -122,8 +122,8 @@ module _ (es all : Entries) (limits : Limits) (key : String Global) (value : Val
     bind_says : (answer : Result Limits Fault) → TableSays BindingSays with_bindings entries answer → (n : ℕ) → SectionSays n (string_bytes key) (view value) answer
     bind_says answer h n = subst (λ d. SectionSays n (string_bytes key) d answer) (sym is) (subst (λ k. SectionSays n k (table entries) answer) (sym named) h)
 
-    pub bind_stops : (e : LimitsFault) → Tells (AllOrFirstFault BindingSays 0 entries) (Err e) → Tells (TableSays SectionSays joined (members_view all)) (Err e)
-    bind_stops = tells_fault (AllOrFirstFault BindingSays 0 entries) (TableSays SectionSays joined (members_view all)) (λ f h. section_stops f (bind_says (Err f) h))
+    pub bind_stops : (e : LimitsFault) → Tells (AllOrFirstFault BindingSays 0 entries) (Err e) → Tells (TableSays SectionSays joined_limits (members_view all)) (Err e)
+    bind_stops = tells_fault (AllOrFirstFault BindingSays 0 entries) (TableSays SectionSays joined_limits (members_view all)) (λ f h. section_stops f (bind_says (Err f) h))
 
     pub bind_goes : (bindings : List Binding) → AllOrFirstFault BindingSays 0 entries (Ok bindings) → NamesAscend (map (λ binding. binding.input) bindings) → Progress rest all (record { inputs = limits.inputs; bindings = bindings })
     bind_goes bindings h ascends = record {
@@ -141,8 +141,8 @@ module _ (es all : Entries) (limits : Limits) (key : String Global) (value : Val
     input_says : (answer : Result Limits Fault) → TableSays InputSays with_inputs entries answer → (n : ℕ) → SectionSays n (string_bytes key) (view value) answer
     input_says answer h n = subst (λ d. SectionSays n (string_bytes key) d answer) (sym is) (subst (λ k. SectionSays n k (table entries) answer) (sym named) h)
 
-    pub input_stops : (e : LimitsFault) → Tells (AllOrFirstFault InputSays 0 entries) (Err e) → Tells (TableSays SectionSays joined (members_view all)) (Err e)
-    input_stops = tells_fault (AllOrFirstFault InputSays 0 entries) (TableSays SectionSays joined (members_view all)) (λ f h. section_stops f (input_says (Err f) h))
+    pub input_stops : (e : LimitsFault) → Tells (AllOrFirstFault InputSays 0 entries) (Err e) → Tells (TableSays SectionSays joined_limits (members_view all)) (Err e)
+    input_stops = tells_fault (AllOrFirstFault InputSays 0 entries) (TableSays SectionSays joined_limits (members_view all)) (λ f h. section_stops f (input_says (Err f) h))
 
     pub input_goes : (inputs : List InputLimit) → AllOrFirstFault InputSays 0 entries (Ok inputs) → NamesAscend (map (λ limit. limit.name) inputs) → Progress rest all (record { inputs = inputs; bindings = limits.bindings })
     input_goes inputs h ascends = record {
@@ -156,7 +156,7 @@ module _ (es all : Entries) (limits : Limits) (key : String Global) (value : Val
     }
 
 -- the walk is over
-pub whole_says : (es all : Entries) (limits : Limits) → Progress es all limits → es ≡ [] → TableSays SectionSays joined (members_view all) (Ok limits)
+pub whole_says : (es all : Entries) (limits : Limits) → Progress es all limits → es ≡ [] → TableSays SectionSays joined_limits (members_view all) (Ok limits)
 whole_says es all limits p e =
     let over = subst (λ l. GoesOn SectionSays p.parts (members_view l) (members_view all)) e p.goes in
     (p.parts, ends SectionSays p.parts (members_view all) over, sym p.whole)

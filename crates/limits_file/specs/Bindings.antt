@@ -9,7 +9,7 @@ use Rattle.limits_file.specs.declared.limits.Carry.TheVariants.{Sum, Last, Count
 use Rattle.limits_file.specs.declared.limits.Binding.{Binding}
 use Rattle.limits_file.specs.Labels.{label_of}
 use Rattle.limits_file.specs.Faults.{Fault, bad_key}
-use Rattle.limits_file.specs.Entries.{Form, text_at, entry_of, failing_key}
+use Rattle.limits_file.specs.Entries.{EntryForm, text_at, entry_members, failing_key}
 
 -- the entry's kind is `count`
 abbrev pub is_count : Members → Bool
@@ -29,7 +29,7 @@ suits_binding counts key (string text) =
 suits_binding counts key value = false
 
 -- an entry of `[bind]`: a `kind`, and an `output` unless it counts runs
-abbrev pub binding_form : Form
+abbrev pub binding_form : EntryForm
 binding_form = record {
   suits = λ entry. suits_binding (is_count entry);
   needed = λ entry. codes "kind" ∷ (if is_count entry then [] else codes "output" ∷ []);
@@ -49,7 +49,7 @@ IsCarryOf entry Count = text_at (codes "kind") entry ≡ Some (codes "count")
 abbrev pub BindingSays : ℕ → List ℕ → Data → Result Binding Fault → Type 0
 BindingSays n name value (Ok binding) =
     (failing_key binding_form name value ≡ None) × (binding.input ≡ name)
-    × IsCarryOf (entry_of value) binding.carry
+    × IsCarryOf (entry_members value) binding.carry
 BindingSays n name value (Err (bad_key label)) =
     option_map label_of (failing_key binding_form name value) ≡ Some label
 BindingSays n name value (Err other) = ⊥

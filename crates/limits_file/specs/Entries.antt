@@ -6,7 +6,7 @@ use Rattle.toml.specs.Data.{Data, table, Members, no_members, member, get_member
 use Rattle.pap_tree.specs.Names.{is_name}
 
 -- the form of an entry: which values its keys may have, and which keys it needs
-pub record Form : Type 0 where
+pub record EntryForm : Type 0 where
   pub suits : Members → List ℕ → Data → Bool
   pub needed : Members → List (List ℕ)
 
@@ -25,17 +25,17 @@ first_unsuited suits (member key value rest) =
     if suits key value then first_unsuited suits rest else Some key
 
 -- the keys and values of an entry
-abbrev pub entry_of : Data → Members
-entry_of (table entry) = entry
-entry_of value = no_members
+abbrev pub entry_members : Data → Members
+entry_members (table entry) = entry
+entry_members value = no_members
 
 -- whether an entry has the keys that it needs
-abbrev pub has_needed_keys : Form → Members → Bool
+abbrev pub has_needed_keys : EntryForm → Members → Bool
 has_needed_keys form entry = list_all (has_key entry) (form.needed entry)
 
 -- the key at which an entry fails: its own where it isn't a name or the entry isn't a table; else the first of its
 -- keys that an entry doesn't have or whose value doesn't suit it; else its own where a key is missing
-abbrev pub failing_key : Form → List ℕ → Data → Option (List ℕ)
+abbrev pub failing_key : EntryForm → List ℕ → Data → Option (List ℕ)
 failing_key form name (table entry) =
     if not (is_name name) then Some name
     else option_or (first_unsuited (form.suits entry) entry)

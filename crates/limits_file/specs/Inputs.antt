@@ -10,7 +10,7 @@ use Rattle.limits_file.specs.declared.limits.InputLimit.{InputLimit}
 use Rattle.limits_file.specs.Labels.{label_of}
 use Rattle.limits_file.specs.Limits.{HasSoundBounds}
 use Rattle.limits_file.specs.Faults.{Fault, bad_key, bad_bound}
-use Rattle.limits_file.specs.Entries.{Form, entry_of, failing_key}
+use Rattle.limits_file.specs.Entries.{EntryForm, entry_members, failing_key}
 
 -- the keys of the two bounds
 abbrev pub is_bound_key : List ℕ → Bool
@@ -23,7 +23,7 @@ suits_input key (string text) = is_bound_key key
 suits_input key value = false
 
 -- an entry of `[input]`: two bounds and `places`
-abbrev pub input_form : Form
+abbrev pub input_form : EntryForm
 input_form = record {
   suits = λ entry. suits_input;
   needed = λ entry. codes "low" ∷ codes "high" ∷ codes "places" ∷ [];
@@ -46,19 +46,19 @@ abbrev pub HasNoBoundAt : List ℕ → Members → Type 0
 HasNoBoundAt key entry = (bound : Decimal) → IsBoundAt key entry bound → ⊥
 
 -- the value of `places` is this whole number
-abbrev pub HasPlaces : Members → ℕ → Type 0
-HasPlaces entry places = get_member (codes "places") entry ≡ Some (integer (pos places))
+abbrev pub SaysPlaces : Members → ℕ → Type 0
+SaysPlaces entry places = get_member (codes "places") entry ≡ Some (integer (pos places))
 
 -- the value of `places` isn't a whole number from 0 to 255
 abbrev pub HasNoPlaces : Members → Type 0
-HasNoPlaces entry = (places : ℕ) → places ≤ 255 → HasPlaces entry places → ⊥
+HasNoPlaces entry = (places : ℕ) → places ≤ 255 → SaysPlaces entry places → ⊥
 
 -- the limit that an entry of this name gives, by the rule for bounds
 pub record IsLimitOf (name : List ℕ) (entry : Members) (limit : InputLimit) : Type 0 where
   pub named : limit.name ≡ name
   pub low : IsBoundAt (codes "low") entry limit.low
   pub high : IsBoundAt (codes "high") entry limit.high
-  pub places : HasPlaces entry limit.places
+  pub places : SaysPlaces entry limit.places
   pub sound : HasSoundBounds limit
 
 -- no limit of this name is given by the entry
@@ -70,10 +70,10 @@ GivesNoLimit name entry = (limit : InputLimit) → IsLimitOf name entry limit �
 abbrev pub InputSays : ℕ → List ℕ → Data → Result InputLimit Fault → Type 0
 InputSays n name value (Ok limit) =
     (failing_key input_form name value ≡ None) × (n < most_inputs)
-    × IsLimitOf name (entry_of value) limit
+    × IsLimitOf name (entry_members value) limit
 InputSays n name value (Err (bad_key label)) =
     option_map label_of (failing_key input_form name value) ≡ Some label
 InputSays n name value (Err (bad_bound label)) =
     (failing_key input_form name value ≡ None) × (label ≡ label_of name)
-    × ((most_inputs ≤ n) ⊎ GivesNoLimit name (entry_of value))
+    × ((most_inputs ≤ n) ⊎ GivesNoLimit name (entry_members value))
 InputSays n name value (Err other) = ⊥

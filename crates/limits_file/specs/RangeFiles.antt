@@ -26,8 +26,8 @@ abbrev pub with_bindings : List Binding → Limits
 with_bindings bindings = record { inputs = []; bindings = bindings }
 
 -- what several parts give, one part after the other
-abbrev pub joined : List Limits → Limits
-joined parts = record {
+abbrev pub joined_limits : List Limits → Limits
+joined_limits parts = record {
   inputs = flat_map (λ part. part.inputs) parts;
   bindings = flat_map (λ part. part.bindings) parts;
 }
@@ -56,10 +56,10 @@ abbrev pub FileSays : List ℕ → Result Limits Fault → Type 0
 FileSays bytes (Err too_long) = longest_limits < length bytes
 FileSays bytes (Err no_toml) = IsNoToml bytes
 FileSays bytes answer =
-    (file : Members) × IsToml bytes file × TableSays SectionSays joined file answer
+    (file : Members) × IsToml bytes file × TableSays SectionSays joined_limits file answer
 
 -- a text says one thing
-pub record HasOneAnswer (bytes : List ℕ) : Type 0 where
+pub record RangeFileHasOneAnswer (bytes : List ℕ) : Type 0 where
   pub answer : Result Limits Fault
   pub says : FileSays bytes answer
   pub alone : (other : Result Limits Fault) → FileSays bytes other → other ≡ answer
@@ -69,7 +69,7 @@ abbrev pub NamesAscend : List (List ℕ) → Type 0
 NamesAscend = IsStrictlySortedBy (slice_cmp nat_cmp)
 
 -- the limits and the bindings, each by the names of their inputs
-pub record AreInOrder (limits : Limits) : Type 0 where
+pub record NamesAreInOrder (limits : Limits) : Type 0 where
   pub inputs : NamesAscend (map (λ limit. limit.name) limits.inputs)
   pub bindings : NamesAscend (map (λ binding. binding.input) limits.bindings)
 

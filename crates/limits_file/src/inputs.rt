@@ -4,7 +4,7 @@ ghost use Rattle.scaled_decimal.specs.Decimals.{Decimal};
 ghost use Rattle.toml.specs.View.{view, table_view};
 ghost use Rattle.limits_file.specs.private.AnswerViews.{Tells};
 ghost use Rattle.limits_file.specs.Entries.{first_unsuited, has_key, has_needed_keys};
-ghost use Rattle.limits_file.specs.Inputs.{suits_input, is_bound_key, input_form, IsBound, IsBoundAt, IsLimitOf, GivesNoLimit, InputSays, HasNoBoundAt, HasPlaces, HasNoPlaces};
+ghost use Rattle.limits_file.specs.Inputs.{suits_input, is_bound_key, input_form, IsBound, IsBoundAt, IsLimitOf, GivesNoLimit, InputSays, HasNoBoundAt, SaysPlaces, HasNoPlaces};
 ghost use Rattle.limits_file.specs.RangeFiles.{NamesAscend};
 ghost use Rattle.limits_file.specs.Walks.{AllOrFirstFault};
 ghost use Rattle.limits_file.specs.Limits.{HasSoundBounds};
@@ -124,7 +124,7 @@ pub fn bound_at(entry: &Table, key: &str) -> Option<Dec>
 /// The number of places of an entry, where it is a whole number from 0 to 255.
 pub fn places_at(entry: &Table) -> Option<u8>
     ensures { MatchOption result (HasNoPlaces (table_view entry.now))
-        (HasPlaces (table_view entry.now)) }
+        (SaysPlaces (table_view entry.now)) }
 {
     match value_at(entry, "places")? {
         Value::Integer(places) => u8::try_from(*places).ok(),

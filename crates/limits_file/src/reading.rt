@@ -4,7 +4,7 @@ ghost use Rattle.toml.specs.View.{table_view};
 ghost use Rattle.limits_file.specs.private.AnswerViews.{Tells, IsNoTomlOrMemory};
 ghost use Rattle.limits_file.specs.Faults.{no_toml, bad_key, bad_bound};
 ghost use Rattle.limits_file.specs.Limits.{longest_limits};
-ghost use Rattle.limits_file.specs.RangeFiles.{SectionSays, joined, IsToml, FileSays, FilesAreInOrder, AreInOrder, HasOneAnswer};
+ghost use Rattle.limits_file.specs.RangeFiles.{SectionSays, joined_limits, IsToml, FileSays, FilesAreInOrder, NamesAreInOrder, RangeFileHasOneAnswer};
 ghost use Rattle.limits_file.specs.Walks.{TableSays};
 
 use crate::bindings::read_bindings;
@@ -23,7 +23,7 @@ pub const LONGEST_LIMITS: usize = 262_144;
 /// `LimitsLong` and `Toml` are tried before all others.
 pub fn read_limits(alloc: Global, bytes: &[u8]) -> Result<Limits, LimitsFault>
     ensures limits { IfOk result (λ limits. FileSays bytes.now (Ok limits)) }
-    ensures in_order { IfOk result AreInOrder }
+    ensures in_order { IfOk result NamesAreInOrder }
 
     ensures long { (result ≡ Err LimitsFault.LimitsLong) ↔ (longest_limits < length bytes.now) }
     ensures toml { result ≡ Err LimitsFault.Toml → FileSays bytes.now (Err no_toml) }
@@ -41,7 +41,7 @@ pub fn read_limits(alloc: Global, bytes: &[u8]) -> Result<Limits, LimitsFault>
 
 /// A text has one answer: its limits or its first fault, and not both.
 pub fn each_text_has_one_answer()
-    ensures { (bytes : List ℕ) → HasOneAnswer bytes }
+    ensures { (bytes : List ℕ) → RangeFileHasOneAnswer bytes }
 {}
 
 /// The keys of a range file stand in byte order, and none stands twice: the order in which they are read, which is that of the
@@ -70,8 +70,8 @@ fn read_toml(alloc: Global, bytes: &[u8]) -> Result<Table, LimitsFault>
 
 /// What a whole table says.
 fn read_table(alloc: Global, table: &Table) -> Result<Limits, LimitsFault>
-    ensures says { Tells (TableSays SectionSays joined (table_view table.now)) result }
-    ensures in_order { IfOk result AreInOrder }
+    ensures says { Tells (TableSays SectionSays joined_limits (table_view table.now)) result }
+    ensures in_order { IfOk result NamesAreInOrder }
 {
     let mut limits = Limits {
         inputs: Items::from_vec(Vec::new(alloc)),

@@ -198,7 +198,7 @@ TableSays bytes (Ok records) = IsTable bytes records
 TableSays bytes (Err why) = IsTableFault bytes why
 
 -- a text says one thing
-pub record HasOneAnswer (bytes : List ℕ) : Type 0 where
+pub record TableHasOneAnswer (bytes : List ℕ) : Type 0 where
   pub answer : Result (List Record) TableFault
   pub says : TableSays bytes answer
   pub alone : (other : Result (List Record) TableFault) → TableSays bytes other → other ≡ answer

@@ -1,7 +1,7 @@
 //! Tables of pay runs.
 ghost use Rattle.std.specs.Prelude.{◌≡◌, ◌↔◌, ◌<◌, ◌≤◌, ℕ, List, [], IfOk, IfErr, Err, MatchResult, alloc_error, length};
 ghost use Rattle.payroll_records.specs.Limits.{longest_table, most_values};
-ghost use Rattle.payroll_records.specs.Tables.{AreRecordsOf, HasOneAnswer, IsTableFaultOrMemory, IsTable};
+ghost use Rattle.payroll_records.specs.Tables.{AreRecordsOf, TableHasOneAnswer, IsTableFaultOrMemory, IsTable};
 ghost use Rattle.payroll_records.specs.private.RowViews.{IsBetweenRows, rows_left};
 ghost use Rattle.payroll_records.specs.private.TableViews.{AreColumns, BreaksIn, fault_at};
 ghost use Rattle.payroll_records.specs.declared.table.TableFault.TheVariants.{Memory};
@@ -87,7 +87,7 @@ pub fn read_table(alloc: Global, bytes: &[u8]) -> Result<Vec<Record>, TableFault
 
 /// A text has one answer: its records or why it is refused, and not both.
 pub fn each_table_has_one_answer()
-    ensures { (bytes : List ℕ) → HasOneAnswer bytes }
+    ensures { (bytes : List ℕ) → TableHasOneAnswer bytes }
 {}
 
 /// The records of the rows that are left, or the first fault.

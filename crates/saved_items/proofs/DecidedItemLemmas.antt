@@ -20,10 +20,10 @@ use Rattle.payroll_records.specs.declared.day.Day.{Day}
 use Rattle.payroll_records.specs.declared.record.Record.{Record}
 use Rattle.payroll_records.specs.declared.values.NamedValue.{NamedValue}
 use Rattle.payroll_records.proofs.Laws.{Decided, both, by_iff, true_decided, eq_decided, text_decided, day_spelled_decided, value_word_decided, value_once}
-use Rattle.saved_items.specs.Fronts.{Front, nothing, titled, worked, planning, running, items_in, plans_in, front_text, IsFront}
+use Rattle.saved_items.specs.Fronts.{FirstItems, nothing, titled, worked, planning, running, items_in, plans_of_first, front_text, AreFirstItems}
 use Rattle.saved_items.specs.private.ItemDecisions.{Item, title, work, plan_count, plan, run_count, run, item_text, Fits, with_item, IsLater, IsBeyond, Goes, all_of, Ends}
 use Rattle.saved_items.specs.private.LineViews.{Misses, is_space, IsLine}
-use Rattle.saved_items.specs.SavedBooks.{SavedPlan, Saved, saved_plan, IsRun, IsValue, line_of, day_word, value_word, title_words, work_words, plan_words, plan_text, run_words, run_text, end_text}
+use Rattle.saved_items.specs.SavedBooks.{SavedPlan, Saved, saved_plan, IsRun, IsValue, line_of_words, day_word, value_word, title_words, work_words, plan_words, saved_plan_text, run_words, saved_run_text, end_text}
 use Rattle.saved_items.specs.Texts.{Stop, TextSays}
 use Rattle.saved_items.proofs.DayLemmas.{day_spells}
 use Rattle.saved_items.proofs.FrontLemmas.{sound_more, text_more}
@@ -467,24 +467,24 @@ module _ (bytes : Text) (l : FirstLine bytes) where
               fits = (more, late);
               rest = t.rest;
               text = line_is bytes l.text l.left seen l.is refl (plan_words w.0 w.1 w.2) (omega arith) w.3
-                  ∙ ap (λ x. line_of (plan_words w.0 x w.2) ++ l.left) (sym t.first_long)
-                  ∙ ap (λ x. line_of (plan_words w.0 (length t.first) x) ++ l.left) (sym t.second_long)
-                  ∙ ap (λ x. line_of (plan_words w.0 (length t.first) (length t.second)) ++ x) t.text
-                  ∙ sym (append_assoc (line_of (plan_words w.0 (length t.first) (length t.second)))
+                  ∙ ap (λ x. line_of_words (plan_words w.0 x w.2) ++ l.left) (sym t.first_long)
+                  ∙ ap (λ x. line_of_words (plan_words w.0 (length t.first) x) ++ l.left) (sym t.second_long)
+                  ∙ ap (λ x. line_of_words (plan_words w.0 (length t.first) (length t.second)) ++ x) t.text
+                  ∙ sym (append_assoc (line_of_words (plan_words w.0 (length t.first) (length t.second)))
                   (t.first ++ (t.second ++ (10 ∷ []))) t.rest);
             })
           ]
     ]
   ]
     where
-      only_plans : ((p : SavedPlan) (rest : Text) → IsLater ps p → bytes ≡ plan_text p ++ rest → ⊥) →
+      only_plans : ((p : SavedPlan) (rest : Text) → IsLater ps p → bytes ≡ saved_plan_text p ++ rest → ⊥) →
           (i : Item) (rest : Text) → Fits (planning a b n ps) i → bytes ≡ item_text i ++ rest → ⊥
       only_plans none (plan p) rest fits e = none p rest fits.1 e
       only_plans none (run_count m) rest fits e = omega (arith, fits.0, more)
       only_plans none i rest fits e = fits
 
       no_bodies : (w : (d : Day) × (x : ℕ) × (y : ℕ) × (seen ≡ plan_words d x y)) → (Bodies l.left w.1 w.2 → ⊥) →
-          (p : SavedPlan) (rest : Text) → bytes ≡ plan_text p ++ rest → ⊥
+          (p : SavedPlan) (rest : Text) → bytes ≡ saved_plan_text p ++ rest → ⊥
       no_bodies w none p rest e =
           let h = plan_is bytes l.text l.left seen l.is refl p rest e in
           let same = plan_words_once p.day w.0 (length p.plan) (length p.limits) w.1 w.2 (sym h.0 ∙ w.3) in
@@ -498,7 +498,7 @@ module _ (bytes : Text) (l : FirstLine bytes) where
           })
 
       same_day_of : (w : (d : Day) × (x : ℕ) × (y : ℕ) × (seen ≡ plan_words d x y)) (p : SavedPlan) (rest : Text) →
-          bytes ≡ plan_text p ++ rest → p.day ≡ w.0
+          bytes ≡ saved_plan_text p ++ rest → p.day ≡ w.0
       same_day_of w p rest e =
           (plan_words_once p.day w.0 (length p.plan) (length p.limits) w.1 w.2
           (sym (plan_is bytes l.text l.left seen l.is refl p rest e).0 ∙ w.3)).0
@@ -523,12 +523,12 @@ module _ (bytes : Text) (l : FirstLine bytes) where
         ]
   ]
     where
-      only_runs : ((r : Record) (rest : Text) → IsRun r → IsBeyond rs r → bytes ≡ run_text r ++ rest → ⊥) →
+      only_runs : ((r : Record) (rest : Text) → IsRun r → IsBeyond rs r → bytes ≡ saved_run_text r ++ rest → ⊥) →
           (i : Item) (rest : Text) → Fits (running a b ps n rs) i → bytes ≡ item_text i ++ rest → ⊥
       only_runs none (run r) rest fits e = none r rest fits.1 fits.2 e
       only_runs none i rest fits e = fits
 
-  next_decided : (f : Front) → Decided (Goes f bytes)
+  next_decided : (f : FirstItems) → Decided (Goes f bytes)
   next_decided nothing = title_next
   next_decided titled = work_next
   next_decided (worked a b) = plan_count_next a b
@@ -556,7 +556,7 @@ module _ (bytes : Text) (l : FirstLine bytes) where
       never (run r) fits full = omega (arith, fits.0, full)
       never i fits full = fits
 
-goes_decided : (f : Front) (bytes : Text) → Decided (Goes f bytes)
+goes_decided : (f : FirstItems) (bytes : Text) → Decided (Goes f bytes)
 goes_decided f bytes = elim (line_decided bytes) [
   | inl l ↦ next_decided bytes l f
   | inr none ↦ inr (λ g. no_item bytes none g.item g.rest g.text)
@@ -564,7 +564,7 @@ goes_decided f bytes = elim (line_decided bytes) [
 
 -- ---- the whole text
 
-ends_decided : (f : Front) (bytes : Text) → Decided (Ends f bytes)
+ends_decided : (f : FirstItems) (bytes : Text) → Decided (Ends f bytes)
 ends_decided nothing bytes = inr (λ h. let e = h.all in cc)
 ends_decided titled bytes = inr (λ h. let e = h.all in cc)
 ends_decided (worked a b) bytes = inr (λ h. let e = h.all in cc)
@@ -592,13 +592,13 @@ item_some (plan p) = omega arith
 item_some (run_count n) = omega arith
 item_some (run r) = omega arith
 
-text_go : (fuel : ℕ) (bytes : Text) (f : Front) (rest : Text) → IsFront f → bytes ≡ front_text f ++ rest →
+text_go : (fuel : ℕ) (bytes : Text) (f : FirstItems) (rest : Text) → AreFirstItems f → bytes ≡ front_text f ++ rest →
     length rest < fuel → (r : Result Saved Stop) × TextSays bytes r
 text_go zero bytes f rest sound text enough = absurd (omega (arith, enough))
 text_go (suc fuel) bytes f rest sound text enough = elim (goes_decided f rest) [
   | inr none ↦ elim (ends_decided f rest) [
     | inl e ↦ (Ok e.saved, ends_text bytes f rest sound text e)
-    | inr more ↦ (Err (record { item = items_in f + 1; plans = plans_in f }), stops bytes f rest sound text none more)
+    | inr more ↦ (Err (record { item = items_in f + 1; plans = plans_of_first f }), stops bytes f rest sound text none more)
   ]
   | inl g ↦ text_go fuel bytes (with_item f g.item) g.rest (sound_more f g.item sound g.fits)
       (text ∙ ap (λ t. front_text f ++ t) g.text ∙ sym (append_assoc (front_text f) (item_text g.item) g.rest)

@@ -11,9 +11,9 @@ use Rattle.payroll_records.specs.Orders.{day_cmp, key_cmp}
 use Rattle.payroll_records.specs.Tables.{Text, key_of}
 use Rattle.payroll_records.specs.declared.record.Record.{Record}
 use Rattle.payroll_records.proofs.Laws.{day_total, key_total}
-use Rattle.saved_items.specs.Fronts.{Front, nothing, titled, worked, planning, running, items_in, front_text, IsFront}
+use Rattle.saved_items.specs.Fronts.{FirstItems, nothing, titled, worked, planning, running, items_in, front_text, AreFirstItems}
 use Rattle.saved_items.specs.private.ItemDecisions.{Item, title, work, plan_count, plan, run_count, run, item_text, Fits, with_item}
-use Rattle.saved_items.specs.SavedBooks.{SavedPlan, day_of, IsRun, title_text, work_text, plan_count_text, head_text, plan_text, run_count_text, run_text}
+use Rattle.saved_items.specs.SavedBooks.{SavedPlan, saved_day, IsRun, title_text, work_text, plan_count_text, head_text, saved_plan_text, run_count_text, saved_run_text}
 use Rattle.saved_items.proofs.ItemLemmas.{fit_once}
 
 -- ---- lists with one more element
@@ -59,30 +59,30 @@ ending x (y ∷ ys) = let more = ending y ys in record {
 
 -- ---- with an item that fits
 
-pub text_more : (f : Front) (i : Item) → Fits f i → front_text (with_item f i) ≡ front_text f ++ item_text i
+pub text_more : (f : FirstItems) (i : Item) → Fits f i → front_text (with_item f i) ≡ front_text f ++ item_text i
 text_more nothing title h = refl
 text_more titled (work a b) h = refl
 text_more (worked a b) (plan_count n) h = append-nil (head_text a b n)
     ∙ sym (append_assoc title_text (work_text a b) (plan_count_text n))
-text_more (planning a b n ps) (plan p) h = sym (flat_map_more plan_text (head_text a b n) ps p)
+text_more (planning a b n ps) (plan p) h = sym (flat_map_more saved_plan_text (head_text a b n) ps p)
 text_more (planning a b n ps) (run_count m) h =
     let head = head_text a b (length ps) in
-    let plans = flat_map plan_text ps in
+    let plans = flat_map saved_plan_text ps in
     ap (λ t. head ++ (plans ++ t)) (append-nil (run_count_text m)) ∙ sym (append_assoc head plans (run_count_text m))
     ∙ ap (λ k. (head_text a b k ++ plans) ++ run_count_text m) h.0
 text_more (running a b ps n rs) (run r) h =
     let head = head_text a b (length ps) in
-    let plans = flat_map plan_text ps in
-    ap (λ t. head ++ (plans ++ t)) (sym (flat_map_more run_text (run_count_text n) rs r))
-    ∙ ap (λ t. head ++ t) (sym (append_assoc plans (run_count_text n ++ flat_map run_text rs) (run_text r)))
-    ∙ sym (append_assoc head (plans ++ (run_count_text n ++ flat_map run_text rs)) (run_text r))
+    let plans = flat_map saved_plan_text ps in
+    ap (λ t. head ++ (plans ++ t)) (sym (flat_map_more saved_run_text (run_count_text n) rs r))
+    ∙ ap (λ t. head ++ t) (sym (append_assoc plans (run_count_text n ++ flat_map saved_run_text rs) (saved_run_text r)))
+    ∙ sym (append_assoc head (plans ++ (run_count_text n ++ flat_map saved_run_text rs)) (saved_run_text r))
 text_more nothing i h = absurd h
 text_more titled i h = absurd h
 text_more (worked a b) i h = absurd h
 text_more (planning a b n ps) i h = absurd h
 text_more (running a b ps n rs) i h = absurd h
 
-pub sound_more : (f : Front) (i : Item) → IsFront f → Fits f i → IsFront (with_item f i)
+pub sound_more : (f : FirstItems) (i : Item) → AreFirstItems f → Fits f i → AreFirstItems (with_item f i)
 sound_more nothing title s h = tt
 sound_more titled (work a b) s h = h
 sound_more (worked a b) (plan_count n) s h = (s, record { counted = h; within = omega arith; rising = tt })
@@ -91,7 +91,7 @@ sound_more (planning a b n ps) (plan p) s h = (
   record {
     counted = s.1.counted;
     within = omega (arith, h.0, length_one_more ps p);
-    rising = rising_append day_cmp day_total day_of ps p s.1.rising h.1;
+    rising = rising_append day_cmp day_total saved_day ps p s.1.rising h.1;
   },
 )
 sound_more (planning a b n ps) (run_count m) s h = (
@@ -115,7 +115,7 @@ sound_more (worked a b) i s h = absurd h
 sound_more (planning a b n ps) i s h = absurd h
 sound_more (running a b ps n rs) i s h = absurd h
 
-pub items_more : (f : Front) (i : Item) → Fits f i → items_in (with_item f i) ≡ items_in f + 1
+pub items_more : (f : FirstItems) (i : Item) → Fits f i → items_in (with_item f i) ≡ items_in f + 1
 items_more nothing title h = refl
 items_more titled (work a b) h = refl
 items_more (worked a b) (plan_count n) h = refl
@@ -130,17 +130,17 @@ items_more (running a b ps n rs) i h = absurd h
 
 -- ---- without the last item
 
-pub record Parent (g : Front) : Type 0 where
-  pub front : Front
+pub record Parent (g : FirstItems) : Type 0 where
+  pub front : FirstItems
   pub item : Item
-  pub sound : IsFront front
+  pub sound : AreFirstItems front
   pub fits : Fits front item
   pub whole : g ≡ with_item front item
 
-planning_parent : (a b n : ℕ) (ps : List SavedPlan) (p : SavedPlan) → IsFront (planning a b n (ps ++ (p ∷ []))) →
+planning_parent : (a b n : ℕ) (ps : List SavedPlan) (p : SavedPlan) → AreFirstItems (planning a b n (ps ++ (p ∷ []))) →
     Parent (planning a b n (ps ++ (p ∷ [])))
 planning_parent a b n ps p s =
-    let rising = rising_front day_cmp day_of ps p s.1.rising in
+    let rising = rising_front day_cmp saved_day ps p s.1.rising in
     let below : length ps < n = omega (arith, s.1.within, length_one_more ps p) in
     record {
       front = planning a b n ps;
@@ -151,7 +151,7 @@ planning_parent a b n ps p s =
     }
 
 running_parent : (a b n : ℕ) (ps : List SavedPlan) (rs : List Record) (r : Record) →
-    IsFront (running a b ps n (rs ++ (r ∷ []))) → Parent (running a b ps n (rs ++ (r ∷ [])))
+    AreFirstItems (running a b ps n (rs ++ (r ∷ []))) → Parent (running a b ps n (rs ++ (r ∷ [])))
 running_parent a b n ps rs r s =
     let rising = rising_front key_cmp key_of rs r s.2.rising in
     let each = all_front IsRun rs r s.2.each in
@@ -164,7 +164,7 @@ running_parent a b n ps rs r s =
       whole = refl;
     }
 
-pub parent : (g : Front) → IsFront g → 0 < items_in g → Parent g
+pub parent : (g : FirstItems) → AreFirstItems g → 0 < items_in g → Parent g
 parent nothing s some = absurd (omega (arith, some))
 parent titled s some = record { front = nothing; item = title; sound = tt; fits = tt; whole = refl }
 parent (worked a b) s some = record { front = titled; item = work a b; sound = tt; fits = s; whole = refl }
@@ -178,7 +178,7 @@ parent (planning a b n []) s some = record {
 parent (planning a b n (p ∷ ps)) s some =
     let e = ending p ps in
     subst (λ xs. Parent (planning a b n xs)) (sym e.whole)
-    (planning_parent a b n e.front e.last (subst (λ xs. IsFront (planning a b n xs)) e.whole s))
+    (planning_parent a b n e.front e.last (subst (λ xs. AreFirstItems (planning a b n xs)) e.whole s))
 parent (running a b ps n []) s some = record {
   front = planning a b (length ps) ps;
   item = run_count n;
@@ -189,26 +189,26 @@ parent (running a b ps n []) s some = record {
 parent (running a b ps n (r ∷ rs)) s some =
     let e = ending r rs in
     subst (λ xs. Parent (running a b ps n xs)) (sym e.whole)
-    (running_parent a b n ps e.front e.last (subst (λ xs. IsFront (running a b ps n xs)) e.whole s))
+    (running_parent a b n ps e.front e.last (subst (λ xs. AreFirstItems (running a b ps n xs)) e.whole s))
 
-pub parent_items : (g : Front) (p : Parent g) → items_in g ≡ items_in p.front + 1
+pub parent_items : (g : FirstItems) (p : Parent g) → items_in g ≡ items_in p.front + 1
 parent_items g p = ap items_in p.whole ∙ items_more p.front p.item p.fits
 
-pub parent_text : (g : Front) (p : Parent g) → front_text g ≡ front_text p.front ++ item_text p.item
+pub parent_text : (g : FirstItems) (p : Parent g) → front_text g ≡ front_text p.front ++ item_text p.item
 parent_text g p = ap front_text p.whole ∙ text_more p.front p.item p.fits
 
 -- ---- the first so many items, and the one that follows them
 
-pub record Step (g : Front) (k : ℕ) : Type 0 where
-  pub front : Front
+pub record Step (g : FirstItems) (k : ℕ) : Type 0 where
+  pub front : FirstItems
   pub item : Item
-  pub sound : IsFront front
+  pub sound : AreFirstItems front
   pub fits : Fits front item
   pub count : items_in front ≡ k
   pub rest : Text
   pub text : front_text g ≡ front_text front ++ (item_text item ++ rest)
 
-step_by : (n : ℕ) (g : Front) (k : ℕ) → IsFront g → items_in g ≡ n → k < n → Step g k
+step_by : (n : ℕ) (g : FirstItems) (k : ℕ) → AreFirstItems g → items_in g ≡ n → k < n → Step g k
 step_by zero g k s e lt = absurd (omega (arith, lt))
 step_by (suc n) g k s e lt =
     let p = parent g s (omega (arith, e)) in
@@ -240,19 +240,19 @@ step_by (suc n) g k s e lt =
           }
     ]
 
-pub step : (g : Front) (k : ℕ) → IsFront g → k < items_in g → Step g k
+pub step : (g : FirstItems) (k : ℕ) → AreFirstItems g → k < items_in g → Step g k
 step g k s lt = step_by (items_in g) g k s refl lt
 
 -- ---- a text begins with one front of so many items
 
-no_items : (f : Front) → items_in f ≡ 0 → f ≡ nothing
+no_items : (f : FirstItems) → items_in f ≡ 0 → f ≡ nothing
 no_items nothing e = refl
 no_items titled e = absurd (omega (arith, e))
 no_items (worked a b) e = absurd (omega (arith, e))
 no_items (planning a b n ps) e = absurd (omega (arith, e))
 no_items (running a b ps n rs) e = absurd (omega (arith, e))
 
-pub fronts_once : (n : ℕ) (f g : Front) (r q : Text) → items_in f ≡ n → items_in g ≡ n → IsFront f → IsFront g →
+pub fronts_once : (n : ℕ) (f g : FirstItems) (r q : Text) → items_in f ≡ n → items_in g ≡ n → AreFirstItems f → AreFirstItems g →
     front_text f ++ r ≡ front_text g ++ q → (f ≡ g) × (r ≡ q)
 fronts_once zero f g r q a b s t e =
     let x = no_items f a in

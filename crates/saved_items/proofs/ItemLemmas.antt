@@ -7,9 +7,9 @@ use Rattle.payroll_records.specs.Tables.{Text}
 use Rattle.payroll_records.specs.declared.day.Day.{Day}
 use Rattle.payroll_records.specs.declared.record.Record.{Record}
 use Rattle.payroll_records.proofs.Laws.{same_record}
-use Rattle.saved_items.specs.Fronts.{Front, nothing, titled, worked, planning, running}
+use Rattle.saved_items.specs.Fronts.{FirstItems, nothing, titled, worked, planning, running}
 use Rattle.saved_items.specs.private.ItemDecisions.{Item, title, work, plan_count, plan, run_count, run, item_text, Fits}
-use Rattle.saved_items.specs.SavedBooks.{SavedPlan, IsRun, line_of, day_word, value_word, work_words, plan_words, plan_text, run_words, run_text}
+use Rattle.saved_items.specs.SavedBooks.{SavedPlan, IsRun, line_of_words, day_word, value_word, work_words, plan_words, saved_plan_text, run_words, saved_run_text}
 use Rattle.saved_items.proofs.DayLemmas.{day_word_once}
 use Rattle.saved_items.specs.private.LineViews.{is_space}
 use Rattle.saved_items.proofs.LineLemmas.{AreWords, cut_once, join_misses, split_join}
@@ -18,7 +18,7 @@ use Rattle.saved_items.proofs.WordLemmas.{values_once, work_are_words, plan_coun
 
 -- two lines that begin one text have the same words, and the same follows them
 pub lines_once : (a : Text) (xs : List Text) (b : Text) (ys : List Text) (r q : Text) → AreWords (a ∷ xs) →
-    AreWords (b ∷ ys) → line_of (a ∷ xs) ++ r ≡ line_of (b ∷ ys) ++ q → (a ∷ xs ≡ b ∷ ys) × (r ≡ q)
+    AreWords (b ∷ ys) → line_of_words (a ∷ xs) ++ r ≡ line_of_words (b ∷ ys) ++ q → (a ∷ xs ≡ b ∷ ys) × (r ≡ q)
 lines_once a xs b ys r q h k e =
     let x = join_with_byte 32 (a ∷ xs) in
     let y = join_with_byte 32 (b ∷ ys) in
@@ -56,7 +56,7 @@ bodies_once p q r s a b e =
     let last = second.1 in
     (first.0, second.0, cc)
 
-pub plan_once : (p q : SavedPlan) (r s : Text) → plan_text p ++ r ≡ plan_text q ++ s → (p ≡ q) × (r ≡ s)
+pub plan_once : (p q : SavedPlan) (r s : Text) → saved_plan_text p ++ r ≡ saved_plan_text q ++ s → (p ≡ q) × (r ≡ s)
 plan_once p q r s e =
     let pw = plan_words p.day (length p.plan) (length p.limits) in
     let qw = plan_words q.day (length q.plan) (length q.limits) in
@@ -66,7 +66,7 @@ plan_once p q r s e =
     (length p.limits) ∷ []) (codes "plan") (day_word q.day ∷ whole_text (length q.plan) ∷ whole_text
     (length q.limits) ∷ []) (pb ++ r) (qb ++ s)
     (plan_are_words p.day (length p.plan) (length p.limits)) (plan_are_words q.day (length q.plan) (length q.limits))
-    (sym (append_assoc (line_of pw) pb r) ∙ e ∙ append_assoc (line_of qw) qb s) in
+    (sym (append_assoc (line_of_words pw) pb r) ∙ e ∙ append_assoc (line_of_words qw) qb s) in
     let words = three_words _ _ _ _ _ _ _ lines.0 in
     let bodies = bodies_once p q r s (whole_once _ _ words.1) (whole_once _ _ words.2) lines.1 in
     (same_plan p q (day_word_once p.day q.day words.0) bodies.0 bodies.1, bodies.2)
@@ -76,7 +76,7 @@ plan_once p q r s e =
 
 -- a number behind a word
 pub count_once : (f : Text) (m n : ℕ) (r q : Text) → AreWords (f ∷ whole_text m ∷ []) →
-    AreWords (f ∷ whole_text n ∷ []) → line_of (f ∷ whole_text m ∷ []) ++ r ≡ line_of (f ∷ whole_text n ∷ []) ++ q →
+    AreWords (f ∷ whole_text n ∷ []) → line_of_words (f ∷ whole_text m ∷ []) ++ r ≡ line_of_words (f ∷ whole_text n ∷ []) ++ q →
     (m ≡ n) × (r ≡ q)
 count_once f m n r q h k e =
     let lines = lines_once f (whole_text m ∷ []) f (whole_text n ∷ []) r q h k e in
@@ -85,7 +85,7 @@ count_once f m n r q h k e =
     second : (f a b : Text) → f ∷ a ∷ [] ≡ f ∷ b ∷ [] → a ≡ b
     second f a b e = cc
 
-pub work_once : (a b c d : ℕ) (r q : Text) → line_of (work_words a b) ++ r ≡ line_of (work_words c d) ++ q →
+pub work_once : (a b c d : ℕ) (r q : Text) → line_of_words (work_words a b) ++ r ≡ line_of_words (work_words c d) ++ q →
     (a ≡ c) × (b ≡ d) × (r ≡ q)
 work_once a b c d r q e =
     let lines = lines_once (codes "work") (whole_text a ∷ whole_text b ∷ []) (codes "work")
@@ -104,7 +104,7 @@ run_words_once a b h k e =
     three : (f e d x y : Text) (vs ws : List Text) → f ∷ e ∷ d ∷ vs ≡ f ∷ x ∷ y ∷ ws → (e ≡ x) × (d ≡ y) × (vs ≡ ws)
     three f e d x y vs ws h = (cc, cc, cc)
 
-pub run_once : (a b : Record) (r q : Text) → IsRun a → IsRun b → run_text a ++ r ≡ run_text b ++ q → (a ≡ b) × (r ≡ q)
+pub run_once : (a b : Record) (r q : Text) → IsRun a → IsRun b → saved_run_text a ++ r ≡ saved_run_text b ++ q → (a ≡ b) × (r ≡ q)
 run_once a b r q h k e =
     let lines = lines_once (codes "run") (a.employee ∷ day_word a.day ∷ map value_word a.values) (codes "run")
     (b.employee ∷ day_word b.day ∷ map value_word b.values) r q (run_are_words a h) (run_are_words b k) e in
@@ -114,7 +114,7 @@ append_same : (t r q : Text) → t ++ r ≡ t ++ q → r ≡ q
 append_same [] r q e = e
 append_same (x ∷ t) r q e = (let s : t ++ r ≡ t ++ q = cc in append_same t r q s)
 
-pub fit_once : (f : Front) (i j : Item) → Fits f i → Fits f j → (r q : Text) → item_text i ++ r ≡ item_text j ++ q →
+pub fit_once : (f : FirstItems) (i j : Item) → Fits f i → Fits f j → (r q : Text) → item_text i ++ r ≡ item_text j ++ q →
     (i ≡ j) × (r ≡ q)
 fit_once nothing title title h k r q e = (refl, append_same (item_text title) r q e)
 fit_once titled (work a b) (work c d) h k r q e = let s = work_once a b c d r q e in (ap₂ work s.0 s.1, s.2)

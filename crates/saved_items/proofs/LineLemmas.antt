@@ -7,7 +7,7 @@ use Rattle.std.proofs.lemmas.Bool.Decides.{nat_tests}
 use Rattle.std.proofs.lemmas.List.Splits.{slice_split-cons_no, join_with_byte-slice_split}
 use Rattle.payroll_records.specs.Tables.{Text}
 use Rattle.saved_items.specs.private.LineViews.{Misses, is_space}
-use Rattle.saved_items.specs.SavedBooks.{line_of}
+use Rattle.saved_items.specs.SavedBooks.{line_of_words}
 
 -- a byte that stands in a word: no space, no line feed
 abbrev pub IsWordByte : ℕ → Type 0
@@ -74,7 +74,7 @@ join_misses (w ∷ v ∷ words) h =
 
 -- the text up to a line's end is its words, and what follows it follows them
 pub line_once : (bytes line more : Text) (words : List Text) (rest : Text) → Misses 10 line →
-    bytes ≡ line ++ (10 ∷ more) → AreWords words → bytes ≡ line_of words ++ rest →
+    bytes ≡ line ++ (10 ∷ more) → AreWords words → bytes ≡ line_of_words words ++ rest →
     (line ≡ join_with_byte 32 words) × (more ≡ rest)
 line_once bytes line more words rest m cut h e =
     cut_once 10 line (join_with_byte 32 words) more rest m (join_misses words h)

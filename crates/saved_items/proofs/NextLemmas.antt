@@ -14,7 +14,7 @@ use Rattle.saved_items.specs.Fronts.{nothing, titled, worked, planning, running}
 use Rattle.saved_items.specs.private.ItemDecisions.{Item, title, work, plan_count, plan, run_count, run, item_text, Fits, IsLater, IsBeyond}
 use Rattle.saved_items.specs.private.ItemViews.{HasTexts, HasNoTexts}
 use Rattle.saved_items.specs.private.LineViews.{Misses, is_space, IsLine}
-use Rattle.saved_items.specs.SavedBooks.{SavedPlan, IsWork, IsRun, line_of, day_word, value_word, title_words, work_words, plan_words, run_words, plan_text, run_text}
+use Rattle.saved_items.specs.SavedBooks.{SavedPlan, IsWork, IsRun, line_of_words, day_word, value_word, title_words, work_words, plan_words, run_words, saved_plan_text, saved_run_text}
 use Rattle.saved_items.specs.ItemFaults.{plan_in}
 use Rattle.saved_items.specs.declared.item_words.PlanLine.{PlanLine}
 use Rattle.saved_items.specs.declared.items.PlanItem.{PlanItem}
@@ -50,9 +50,9 @@ work_words_once a b x y h = (let words = parts _ _ _ _ _ h in (whole_once a x wo
     parts : (f a b x y : Text) → f ∷ a ∷ b ∷ [] ≡ f ∷ x ∷ y ∷ [] → (a ≡ x) × (b ≡ y)
     parts f a b x y e = (cc, cc)
 
-plan_text_in : (p : SavedPlan) (rest : Text) → plan_text p ++ rest ≡ line_of
+plan_text_in : (p : SavedPlan) (rest : Text) → saved_plan_text p ++ rest ≡ line_of_words
     (plan_words p.day (length p.plan) (length p.limits)) ++ ((p.plan ++ (p.limits ++ (10 ∷ []))) ++ rest)
-plan_text_in p rest = append_assoc (line_of (plan_words p.day (length p.plan) (length p.limits)))
+plan_text_in p rest = append_assoc (line_of_words (plan_words p.day (length p.plan) (length p.limits)))
     (p.plan ++ (p.limits ++ (10 ∷ []))) rest
 
 -- no text is longer than the bytes that it stands in
@@ -81,7 +81,7 @@ no_feed_behind bytes a b c d r x one two three other p l rest m n text =
 
 -- ---- bytes with no line feed
 
-pub no_line : (bytes : Text) (words : List Text) (rest : Text) → Misses 10 bytes → bytes ≡ line_of words ++ rest → ⊥
+pub no_line : (bytes : Text) (words : List Text) (rest : Text) → Misses 10 bytes → bytes ≡ line_of_words words ++ rest → ⊥
 no_line bytes words rest m e =
     missing 10 bytes (join_with_byte 32 words) rest m (e ∙ append_assoc (join_with_byte 32 words) (10 ∷ []) rest)
 
@@ -99,13 +99,13 @@ no_item bytes m (run r) rest e = no_line bytes (run_words r) rest m e
 module _ (bytes text left : Text) (seen : List Text) (line : IsLine bytes text left)
     (split : seen ≡ take 260 (slice_split is_space text)) where
   words_are : (w : Text) (ws : List Text) (rest : Text) → AreWords (w ∷ ws) → length (w ∷ ws) < 260 →
-      bytes ≡ line_of (w ∷ ws) ++ rest → (text ≡ join_with_byte 32 (w ∷ ws)) × (seen ≡ w ∷ ws) × (left ≡ rest)
+      bytes ≡ line_of_words (w ∷ ws) ++ rest → (text ≡ join_with_byte 32 (w ∷ ws)) × (seen ≡ w ∷ ws) × (left ≡ rest)
   words_are w ws rest h few e =
       let cut = line_once bytes text left (w ∷ ws) rest line.ends line.cut h e in
       let all : slice_split is_space text ≡ w ∷ ws = ap (slice_split is_space) cut.0 ∙ split_join w ws h in
       (cut.0, split ∙ ap (take 260) all ∙ take_all 260 (w ∷ ws) (omega (arith, few)), cut.1)
 
-  pub line_is : (ws : List Text) → length ws < 260 → seen ≡ ws → bytes ≡ line_of ws ++ left
+  pub line_is : (ws : List Text) → length ws < 260 → seen ≡ ws → bytes ≡ line_of_words ws ++ left
   line_is ws few e =
       let short : take 260 (slice_split is_space text) ≡ ws = sym split ∙ e in
       let count = ap length short in
@@ -146,7 +146,7 @@ module _ (bytes text left : Text) (seen : List Text) (line : IsLine bytes text l
   none_planned none a b ps i rest fits e = fits
 
   -- a plan that stands there has these words, and its texts behind them
-  pub plan_is : (p : SavedPlan) (rest : Text) → bytes ≡ plan_text p ++ rest →
+  pub plan_is : (p : SavedPlan) (rest : Text) → bytes ≡ saved_plan_text p ++ rest →
       (seen ≡ plan_words p.day (length p.plan) (length p.limits)) ×
       (left ≡ (p.plan ++ (p.limits ++ (10 ∷ []))) ++ rest)
   plan_is p rest e =
@@ -184,20 +184,20 @@ module _ (bytes text left : Text) (seen : List Text) (line : IsLine bytes text l
     not_later ps none a b n more (run_count m) rest fits e = omega (arith, fits.0, more)
     not_later ps none a b n more i rest fits e = fits
 
-    pub plan_read : (p : PlanItem) (rest : Text) → HasTexts front left p rest → bytes ≡ plan_text (plan_in p) ++ rest
+    pub plan_read : (p : PlanItem) (rest : Text) → HasTexts front left p rest → bytes ≡ saved_plan_text (plan_in p) ++ rest
     plan_read p rest h =
         line_is (plan_words front.day front.plan front.limits) (omega arith) is
-        ∙ ap (λ (d : Day). line_of (plan_words d front.plan front.limits) ++ left) (sym h.day)
-        ∙ ap (λ (n : ℕ). line_of (plan_words p.day n front.limits) ++ left) (sym h.plan)
-        ∙ ap (λ (n : ℕ). line_of (plan_words p.day (length p.plan.now) n) ++ left) (sym h.limits)
-        ∙ ap (λ t. line_of (plan_words p.day (length p.plan.now) (length p.limits.now)) ++ t) h.text
+        ∙ ap (λ (d : Day). line_of_words (plan_words d front.plan front.limits) ++ left) (sym h.day)
+        ∙ ap (λ (n : ℕ). line_of_words (plan_words p.day n front.limits) ++ left) (sym h.plan)
+        ∙ ap (λ (n : ℕ). line_of_words (plan_words p.day (length p.plan.now) n) ++ left) (sym h.limits)
+        ∙ ap (λ t. line_of_words (plan_words p.day (length p.plan.now) (length p.limits.now)) ++ t) h.text
         ∙ sym (plan_text_in (plan_in p) rest)
 
-  run_is : (r : Record) (rest : Text) → IsRun r → bytes ≡ run_text r ++ rest → text ≡ join_with_byte 32 (run_words r)
+  run_is : (r : Record) (rest : Text) → IsRun r → bytes ≡ saved_run_text r ++ rest → text ≡ join_with_byte 32 (run_words r)
   run_is r rest h e = (words_are (codes "run") (r.employee ∷ day_word r.day ∷ map value_word r.values) rest
       (run_are_words r h) (run_few r h) e).0
 
-  pub run_seen : (r : Record) (rest : Text) → IsRun r → bytes ≡ run_text r ++ rest → seen ≡ run_words r
+  pub run_seen : (r : Record) (rest : Text) → IsRun r → bytes ≡ saved_run_text r ++ rest → seen ≡ run_words r
   run_seen r rest h e = (words_are (codes "run") (r.employee ∷ day_word r.day ∷ map value_word r.values) rest
       (run_are_words r h) (run_few r h) e).1
 
@@ -220,6 +220,6 @@ module _ (bytes text left : Text) (seen : List Text) (line : IsLine bytes text l
       none (subst (IsBeyond rs) (run_words_once r x fits.1 sound same) fits.2)
   not_beyond x sound is rs none a b n ps i rest fits e = fits
 
-  pub run_read : (r : Record) → text ≡ join_with_byte 32 (run_words r) → bytes ≡ run_text r ++ left
+  pub run_read : (r : Record) → text ≡ join_with_byte 32 (run_words r) → bytes ≡ saved_run_text r ++ left
   run_read r is = line.cut ∙ ap (λ t. t ++ (10 ∷ left)) is ∙ sym
       (append_assoc (join_with_byte 32 (run_words r)) (10 ∷ []) left)

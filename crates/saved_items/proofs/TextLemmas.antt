@@ -4,13 +4,13 @@ use Rattle.std.specs.List.{flat_map}
 use Rattle.std.proofs.lemmas.Bool.{cases_lt}
 use Rattle.payroll_records.specs.Tables.{Text}
 use Rattle.payroll_records.specs.declared.record.Record.{Record}
-use Rattle.saved_items.specs.Fronts.{Front, items_in, plans_in, front_text, IsFront}
+use Rattle.saved_items.specs.Fronts.{FirstItems, items_in, plans_of_first, front_text, AreFirstItems}
 use Rattle.saved_items.specs.private.ItemDecisions.{Item, run, item_text, Fits, with_item, Goes, all_of, Ends}
-use Rattle.saved_items.specs.SavedBooks.{SavedPlan, Saved, IsSaved, IsText, head_text, plan_text, run_count_text, run_text, end_text, saved_text}
-use Rattle.saved_items.specs.Texts.{Stop, StopsAt, TextSays}
+use Rattle.saved_items.specs.SavedBooks.{SavedPlan, Saved, IsSaved, IsSavedText, head_text, saved_plan_text, run_count_text, saved_run_text, end_text, saved_text}
+use Rattle.saved_items.specs.Texts.{Stop, StopsAtItem, TextSays}
 use Rattle.saved_items.proofs.FrontLemmas.{step, fronts_once, sound_more, items_more, text_more}
 
-pub all_sound : (s : Saved) → IsSaved s → IsFront (all_of s)
+pub all_sound : (s : Saved) → IsSaved s → AreFirstItems (all_of s)
 all_sound s h = (
   h.work,
   h.plans,
@@ -20,9 +20,9 @@ all_sound s h = (
 pub all_text : (s : Saved) → saved_text s ≡ front_text (all_of s) ++ end_text
 all_text s =
     let head = head_text s.runs s.steps (length s.plans) in
-    let plans = flat_map plan_text s.plans in
+    let plans = flat_map saved_plan_text s.plans in
     let count = run_count_text (length s.records) in
-    let runs = flat_map run_text s.records in
+    let runs = flat_map saved_run_text s.records in
     ap (λ t. head ++ (plans ++ t)) (sym (append_assoc count runs end_text))
     ∙ ap (λ t. head ++ t) (sym (append_assoc plans (count ++ runs) end_text))
     ∙ sym (append_assoc head (plans ++ (count ++ runs)) end_text)
@@ -32,10 +32,10 @@ all_full : (s : Saved) (i : Item) → Fits (all_of s) i → ⊥
 all_full s (run r) h = omega (arith, h.0)
 all_full s i h = h
 
-pub ends_text : (bytes : Text) (f : Front) (rest : Text) → IsFront f → bytes ≡ front_text f ++ rest →
-    (e : Ends f rest) → IsText bytes e.saved
+pub ends_text : (bytes : Text) (f : FirstItems) (rest : Text) → AreFirstItems f → bytes ≡ front_text f ++ rest →
+    (e : Ends f rest) → IsSavedText bytes e.saved
 ends_text bytes f rest s text e =
-    let sound = subst IsFront e.all s in
+    let sound = subst AreFirstItems e.all s in
     record {
       sound = record {
         work = sound.0;
@@ -51,10 +51,10 @@ ends_text bytes f rest s text e =
 
 -- ---- no item goes on
 
-module _ (bytes : Text) (f : Front) (rest : Text) (sound : IsFront f) (text : bytes ≡ front_text f ++ rest)
+module _ (bytes : Text) (f : FirstItems) (rest : Text) (sound : AreFirstItems f) (text : bytes ≡ front_text f ++ rest)
     (none : Goes f rest → ⊥) where
   -- a longer front would go on
-  pub not_longer : (g : Front) (more : Text) → IsFront g → bytes ≡ front_text g ++ more → items_in f < items_in g → ⊥
+  pub not_longer : (g : FirstItems) (more : Text) → AreFirstItems g → bytes ≡ front_text g ++ more → items_in f < items_in g → ⊥
   not_longer g more s e lt =
       let t = step g (items_in f) s lt in
       let left = item_text t.item ++ (t.rest ++ more) in
@@ -69,7 +69,7 @@ module _ (bytes : Text) (f : Front) (rest : Text) (sound : IsFront f) (text : by
         text = sym same.1;
       })
 
-  pub stops : (Ends f rest → ⊥) → StopsAt bytes (record { item = items_in f + 1; plans = plans_in f })
+  pub stops : (Ends f rest → ⊥) → StopsAtItem bytes (record { item = items_in f + 1; plans = plans_of_first f })
   stops open_end = record {
     front = f;
     shown = record { sound = sound; rest = rest; begins = text };
@@ -79,7 +79,7 @@ module _ (bytes : Text) (f : Front) (rest : Text) (sound : IsFront f) (text : by
     unfinished = unfinished;
   }
     where
-      unfinished : (s : Saved) → IsText bytes s → ⊥
+      unfinished : (s : Saved) → IsSavedText bytes s → ⊥
       unfinished s h = elim (cases_lt (items_in f) (items_in (all_of s))) [
         | inl fewer ↦ not_longer (all_of s) end_text (all_sound s h.sound) (h.text ∙ all_text s) fewer
         | inr enough ↦ elim (cases_lt (items_in (all_of s)) (items_in f)) [
@@ -108,8 +108,8 @@ module _ (bytes : Text) (f : Front) (rest : Text) (sound : IsFront f) (text : by
               (sym text ∙ whole) in
               open_end (record { saved = s; all = same.0; last = same.1 })
 
-  pub stops_as : (item : ℕ) (plans : List SavedPlan) → item ≡ items_in f + 1 → plans ≡ plans_in f →
-      (Ends f rest → ⊥) → StopsAt bytes (record { item = item; plans = plans })
+  pub stops_as : (item : ℕ) (plans : List SavedPlan) → item ≡ items_in f + 1 → plans ≡ plans_of_first f →
+      (Ends f rest → ⊥) → StopsAtItem bytes (record { item = item; plans = plans })
   stops_as item plans counted same open_end =
       let s = stops open_end in
       record {
@@ -122,10 +122,10 @@ module _ (bytes : Text) (f : Front) (rest : Text) (sound : IsFront f) (text : by
       }
 
 -- the items with one more
-pub goes_on : (bytes : Text) (f g : Front) (rest left : Text) (i : Item) → IsFront f → bytes ≡ front_text f ++ rest →
-    Fits f i → rest ≡ item_text i ++ left → g ≡ with_item f i → IsFront g × (bytes ≡ front_text g ++ left)
+pub goes_on : (bytes : Text) (f g : FirstItems) (rest left : Text) (i : Item) → AreFirstItems f → bytes ≡ front_text f ++ rest →
+    Fits f i → rest ≡ item_text i ++ left → g ≡ with_item f i → AreFirstItems g × (bytes ≡ front_text g ++ left)
 goes_on bytes f g rest left i sound text fits here next = (
-  subst IsFront (sym next) (sound_more f i sound fits),
+  subst AreFirstItems (sym next) (sound_more f i sound fits),
   text ∙ ap (λ t. front_text f ++ t) here ∙ sym (append_assoc (front_text f) (item_text i) left)
       ∙ ap (λ t. t ++ left) (sym (text_more f i fits) ∙ ap front_text (sym next)),
 )
@@ -146,13 +146,13 @@ all_once s t e =
     parts = (cc, cc, cc, cc)
 
 -- no text has fewer items than another text of the same bytes
-no_fewer : (bytes : Text) (s t : Saved) → IsText bytes s → IsText bytes t →
+no_fewer : (bytes : Text) (s t : Saved) → IsSavedText bytes s → IsSavedText bytes t →
     items_in (all_of s) < items_in (all_of t) → ⊥
 no_fewer bytes s t h k lt =
     not_longer bytes (all_of s) end_text (all_sound s h.sound) (h.text ∙ all_text s) (λ g. all_full s g.item g.fits)
     (all_of t) end_text (all_sound t k.sound) (k.text ∙ all_text t) lt
 
-pub saved_once : (bytes : Text) (s t : Saved) → IsText bytes s → IsText bytes t → s ≡ t
+pub saved_once : (bytes : Text) (s t : Saved) → IsSavedText bytes s → IsSavedText bytes t → s ≡ t
 saved_once bytes s t h k = elim (cases_lt (items_in (all_of s)) (items_in (all_of t))) [
   | inl fewer ↦ absurd (no_fewer bytes s t h k fewer)
   | inr enough ↦ elim (cases_lt (items_in (all_of t)) (items_in (all_of s))) [
@@ -165,7 +165,7 @@ saved_once bytes s t h k = elim (cases_lt (items_in (all_of s)) (items_in (all_o
 ]
 
 -- of two stops none comes earlier
-no_earlier : (bytes : Text) (a b : Stop) (h : StopsAt bytes a) (k : StopsAt bytes b) →
+no_earlier : (bytes : Text) (a b : Stop) (h : StopsAtItem bytes a) (k : StopsAtItem bytes b) →
     items_in h.front < items_in k.front → ⊥
 no_earlier bytes a b h k lt =
     let t = step k.front (items_in h.front) k.shown.sound lt in
@@ -187,7 +187,7 @@ same_stop a b i p = ap (λ (x : ℕ). make x a.plans) i ∙ ap (λ (x : List Sav
     make : ℕ → List SavedPlan → Stop
     make item plans = record { item = item; plans = plans }
 
-stop_once : (bytes : Text) (a b : Stop) → StopsAt bytes a → StopsAt bytes b → a ≡ b
+stop_once : (bytes : Text) (a b : Stop) → StopsAtItem bytes a → StopsAtItem bytes b → a ≡ b
 stop_once bytes a b h k = elim (cases_lt (items_in h.front) (items_in k.front)) [
   | inl fewer ↦ absurd (no_earlier bytes a b h k fewer)
   | inr enough ↦ elim (cases_lt (items_in k.front) (items_in h.front)) [
@@ -200,7 +200,7 @@ stop_once bytes a b h k = elim (cases_lt (items_in h.front) (items_in k.front)) 
     exactly e =
         let same = fronts_once (items_in h.front) h.front k.front h.shown.rest k.shown.rest refl
         (sym e) h.shown.sound k.shown.sound (sym h.shown.begins ∙ k.shown.begins) in
-        same_stop a b (h.item ∙ ap (λ n. n + 1) e ∙ sym k.item) (h.plans ∙ ap plans_in same.0 ∙ sym k.plans)
+        same_stop a b (h.item ∙ ap (λ n. n + 1) e ∙ sym k.item) (h.plans ∙ ap plans_of_first same.0 ∙ sym k.plans)
 
 pub text_once : (bytes : Text) (r q : Result Saved Stop) → TextSays bytes r → TextSays bytes q → r ≡ q
 text_once bytes (Ok s) (Ok t) h k = ap Ok (saved_once bytes s t h k)

@@ -2,8 +2,8 @@
 use Rattle.std.specs.Prelude.{map, ⊤}
 use Rattle.payroll_records.specs.Tables.{Text}
 use Rattle.saved_items.specs.SavedBooks.{SavedPlan, Saved, saved_plan}
-use Rattle.saved_items.specs.Texts.{StopsAt}
-use Rattle.saved_items.specs.declared.items.Items.{Items}
+use Rattle.saved_items.specs.Texts.{StopsAtItem}
+use Rattle.saved_items.specs.declared.items.SavedBook.{SavedBook}
 use Rattle.saved_items.specs.declared.items.PlanItem.{PlanItem}
 use Rattle.saved_items.specs.declared.items.ItemFault.{ItemFault}
 use Rattle.saved_items.specs.declared.items.ItemFault.TheVariants as fault
@@ -13,7 +13,7 @@ abbrev pub plan_in : PlanItem → SavedPlan
 plan_in p = saved_plan p.day p.plan.now p.limits.now
 
 -- the items that were read, as a saved book
-abbrev pub saved_in : Items → Saved
+abbrev pub saved_in : SavedBook → Saved
 saved_in items = record {
   runs = items.runs;
   steps = items.steps;
@@ -25,5 +25,5 @@ saved_in items = record {
 -- text
 abbrev pub IsItemFaultOrMemory : Text → ItemFault → Type 0
 IsItemFaultOrMemory bytes (fault.Form item plans) =
-    StopsAt bytes (record { item = item; plans = map plan_in plans.items })
+    StopsAtItem bytes (record { item = item; plans = map plan_in plans.items })
 IsItemFaultOrMemory bytes (fault.Memory error) = ⊤

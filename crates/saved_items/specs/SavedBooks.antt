@@ -34,8 +34,8 @@ abbrev pub saved_plan : Day → Text → Text → SavedPlan
 saved_plan day plan limits = record { day = day; plan = plan; limits = limits }
 
 -- the day of a saved plan
-abbrev pub day_of : SavedPlan → Day
-day_of p = p.day
+abbrev pub saved_day : SavedPlan → Day
+saved_day p = p.day
 
 -- the work's numbers fit 64 bits
 pub record IsWork (runs steps : ℕ) : Type 0 where
@@ -44,7 +44,7 @@ pub record IsWork (runs steps : ℕ) : Type 0 where
 
 -- the days of the plans rise, and there are at most so many
 pub record ArePlans (plans : List SavedPlan) : Type 0 where
-  pub rising : IsRising day_cmp day_of plans
+  pub rising : IsRising day_cmp saved_day plans
   pub few : length plans ≤ most_plans
 
 -- a value under a name, as a record keeps it
@@ -71,8 +71,8 @@ pub record IsSaved (s : Saved) : Type 0 where
   pub records : AreRuns s.records
 
 -- words with one space between each two, and a line feed
-abbrev pub line_of : List Text → Text
-line_of words = join_with_byte 32 words ++ (10 ∷ [])
+abbrev pub line_of_words : List Text → Text
+line_of_words words = join_with_byte 32 words ++ (10 ∷ [])
 
 -- a day as it is written
 abbrev pub day_word : Day → Text
@@ -88,7 +88,7 @@ title_words = codes "papbook" ∷ codes "1" ∷ []
 
 -- the first line of a saved book
 abbrev pub title_text : Text
-title_text = line_of title_words
+title_text = line_of_words title_words
 
 -- the words of the line with the last work
 abbrev pub work_words : ℕ → ℕ → List Text
@@ -96,11 +96,11 @@ work_words runs steps = codes "work" ∷ whole_text runs ∷ whole_text steps �
 
 -- the line with the runs and steps of the last work
 abbrev pub work_text : ℕ → ℕ → Text
-work_text runs steps = line_of (work_words runs steps)
+work_text runs steps = line_of_words (work_words runs steps)
 
 -- the line that says how many plans there are
 abbrev pub plan_count_text : ℕ → Text
-plan_count_text count = line_of (codes "plans" ∷ whole_text count ∷ [])
+plan_count_text count = line_of_words (codes "plans" ∷ whole_text count ∷ [])
 
 -- the first three lines of a saved book
 abbrev pub head_text : ℕ → ℕ → ℕ → Text
@@ -111,36 +111,36 @@ abbrev pub plan_words : Day → ℕ → ℕ → List Text
 plan_words day plan limits = codes "plan" ∷ day_word day ∷ whole_text plan ∷ whole_text limits ∷ []
 
 -- a plan: a line with its day and the lengths of its texts, and both texts
-abbrev pub plan_text : SavedPlan → Text
-plan_text p =
-    line_of (plan_words p.day (length p.plan) (length p.limits))
+abbrev pub saved_plan_text : SavedPlan → Text
+saved_plan_text p =
+    line_of_words (plan_words p.day (length p.plan) (length p.limits))
     ++ (p.plan ++ (p.limits ++ (10 ∷ [])))
 
 -- the line that says how many runs there are
 abbrev pub run_count_text : ℕ → Text
-run_count_text count = line_of (codes "runs" ∷ whole_text count ∷ [])
+run_count_text count = line_of_words (codes "runs" ∷ whole_text count ∷ [])
 
 -- the words of a pay run's line
 abbrev pub run_words : Record → List Text
 run_words r = codes "run" ∷ r.employee ∷ day_word r.day ∷ map value_word r.values
 
 -- the line of a pay run
-abbrev pub run_text : Record → Text
-run_text r = line_of (run_words r)
+abbrev pub saved_run_text : Record → Text
+saved_run_text r = line_of_words (run_words r)
 
 -- the last line of a saved book
 abbrev pub end_text : Text
-end_text = line_of (codes "end" ∷ [])
+end_text = line_of_words (codes "end" ∷ [])
 
 -- the text of a saved book
 abbrev pub saved_text : Saved → Text
 saved_text s =
     head_text s.runs s.steps (length s.plans)
-    ++ (flat_map plan_text s.plans
+    ++ (flat_map saved_plan_text s.plans
     ++ (run_count_text (length s.records)
-    ++ (flat_map run_text s.records ++ end_text)))
+    ++ (flat_map saved_run_text s.records ++ end_text)))
 
 -- the bytes are the text of this tree
-pub record IsText (bytes : Text) (s : Saved) : Type 0 where
+pub record IsSavedText (bytes : Text) (s : Saved) : Type 0 where
   pub sound : IsSaved s
   pub text : bytes ≡ saved_text s

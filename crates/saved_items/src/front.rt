@@ -4,7 +4,7 @@ ghost use Rattle.saved_items.specs.Fronts.{nothing};
 ghost use Rattle.saved_items.specs.private.ItemDecisions.{Fits, with_item};
 ghost use Rattle.saved_items.specs.private.ItemViews.{IsKnown, front_in, item_in};
 
-use crate::Items;
+use crate::SavedBook;
 use crate::item::Item;
 use std::alloc::{AllocError, Global};
 
@@ -29,7 +29,7 @@ pub(crate) struct Front<'a> {
     /// Which item comes next.
     pub(crate) stage: Stage,
     /// What the items say.
-    pub(crate) items: Items<'a>,
+    pub(crate) items: SavedBook<'a>,
 }
 
 impl<'a> Front<'a> {
@@ -40,7 +40,7 @@ impl<'a> Front<'a> {
     {
         Front {
             stage: Stage::Title,
-            items: Items {
+            items: SavedBook {
                 runs: 0,
                 steps: 0,
                 plans: Vec::new(alloc),

@@ -16,7 +16,7 @@ pub struct PlanItem<'a> {
 
 /// A saved book.
 #[derive(Debug, Drop)]
-pub struct Items<'a> {
+pub struct SavedBook<'a> {
     /// How many runs the last work ran.
     pub runs: u64,
     /// How many steps the last work took.

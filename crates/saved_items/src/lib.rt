@@ -13,7 +13,7 @@ mod reading;
 mod run_words;
 mod writing;
 
-pub use items::{ItemFault, Items, PlanItem};
+pub use items::{ItemFault, PlanItem, SavedBook};
 pub use reading::{each_text_has_one_answer, read_items};
 pub use run_words::run_law;
 pub use writing::{push_end, push_head, push_plan, push_run, push_run_count};

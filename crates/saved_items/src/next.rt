@@ -3,12 +3,12 @@ ghost use Rattle.std.specs.Prelude.{◌≡◌, ◌+◌, ◌<◌, ◌^◌, ◌++�
 ghost use Rattle.rising_lists.specs.Keyed.{IsRising};
 ghost use Rattle.payroll_records.specs.Orders.{day_cmp, key_cmp};
 ghost use Rattle.payroll_records.specs.Tables.{key_of};
-ghost use Rattle.saved_items.specs.Fronts.{IsFront, nothing, titled, worked, planning, running};
+ghost use Rattle.saved_items.specs.Fronts.{AreFirstItems, nothing, titled, worked, planning, running};
 ghost use Rattle.saved_items.specs.private.ItemDecisions.{Fits, IsBeyond, IsLater};
 ghost use Rattle.saved_items.specs.private.ItemViews.{HasNoTexts, HasTexts, Reads, ReadsBehind, front_in};
 ghost use Rattle.saved_items.specs.private.ItemViews.{plans_of};
 ghost use Rattle.saved_items.specs.private.LineViews.{AreWordsOf};
-ghost use Rattle.saved_items.specs.SavedBooks.{SavedPlan, day_of};
+ghost use Rattle.saved_items.specs.SavedBooks.{SavedPlan, saved_day};
 
 use crate::PlanItem;
 use crate::front::{Front, Stage};
@@ -32,7 +32,7 @@ pub(crate) fn next_item<'a>(
     front: &Front<'a>,
     rest: &'a [u8],
 ) -> Result<Option<(Item<'a>, &'a [u8])>, AllocError>
-    requires { IsFront (front_in front.now) }
+    requires { AreFirstItems (front_in front.now) }
     ensures { IfOk result (Reads (Fits (front_in front.now)) rest.now) }
 {
     let Some(line) = first_line(alloc, rest)? else {
@@ -88,7 +88,7 @@ fn next_run_count<'a>(line: &Line<'a>) -> Option<(Item<'a>, &'a [u8])>
 
 /// A plan behind others, where there are to be more.
 fn next_plan<'a>(plans: &[PlanItem<'a>], line: &Line<'a>) -> Option<(Item<'a>, &'a [u8])>
-    requires { IsRising day_cmp day_of (plans_of plans.now) }
+    requires { IsRising day_cmp saved_day (plans_of plans.now) }
     ensures { (runs steps count : ℕ) → length plans.now < count →
         ReadsBehind (Fits (planning runs steps count (plans_of plans.now))) line.now result }
 {
@@ -110,7 +110,7 @@ fn text_law(bytes: &[u8])
 
 /// Whether a day is behind those of all plans.
 fn is_later(plans: &[PlanItem], day: Day) -> bool
-    requires { IsRising day_cmp day_of (plans_of plans.now) }
+    requires { IsRising day_cmp saved_day (plans_of plans.now) }
     ensures { (p : SavedPlan) → p.day ≡ day →
         MatchBool result (IsLater (plans_of plans.now) p) (IsLater (plans_of plans.now) p → ⊥) }
 {

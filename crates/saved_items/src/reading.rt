@@ -1,21 +1,21 @@
 //! Reading a saved book.
 ghost use Rattle.std.specs.Prelude.{◌≡◌, ◌+◌, ◌<◌, IfOk, IfErr, MatchBool};
 ghost use Rattle.payroll_records.specs.Tables.{Text};
-ghost use Rattle.saved_items.specs.Fronts.{IsFront, items_in};
+ghost use Rattle.saved_items.specs.Fronts.{AreFirstItems, items_in};
 ghost use Rattle.saved_items.specs.private.ItemDecisions.{Ends};
 ghost use Rattle.saved_items.specs.private.ItemViews.{EndsWith, IsComplete, front_in};
-ghost use Rattle.saved_items.specs.SavedBooks.{IsText};
-ghost use Rattle.saved_items.specs.Texts.{HasOneAnswer};
+ghost use Rattle.saved_items.specs.SavedBooks.{IsSavedText};
+ghost use Rattle.saved_items.specs.Texts.{SavedTextHasOneAnswer};
 ghost use Rattle.saved_items.specs.ItemFaults.{IsItemFaultOrMemory, saved_in};
 
 use crate::front::{Front, Stage};
 use crate::next::next_item;
-use crate::{ItemFault, Items};
+use crate::{ItemFault, SavedBook};
 use std::alloc::Global;
 
 /// The saved book that a text is, or the first item that isn't of its form.
-pub fn read_items<'a>(alloc: Global, bytes: &'a [u8]) -> Result<Items<'a>, ItemFault<'a>>
-    ensures ok { IfOk result (λ items. IsText bytes.now (saved_in items)) }
+pub fn read_items<'a>(alloc: Global, bytes: &'a [u8]) -> Result<SavedBook<'a>, ItemFault<'a>>
+    ensures ok { IfOk result (λ items. IsSavedText bytes.now (saved_in items)) }
     ensures err { IfErr result (IsItemFaultOrMemory bytes.now) }
 {
     let mut front = Front::new(alloc);
@@ -35,7 +35,7 @@ pub fn read_items<'a>(alloc: Global, bytes: &'a [u8]) -> Result<Items<'a>, ItemF
 
 /// A law, with nothing to run: a text says one thing.
 pub fn each_text_has_one_answer()
-    ensures { (bytes : Text) → HasOneAnswer bytes }
+    ensures { (bytes : Text) → SavedTextHasOneAnswer bytes }
 {}
 
 /// Whether all runs were read, and the last line follows with nothing after it.
@@ -61,7 +61,7 @@ fn is_complete(front: &Front) -> bool
 
 /// How many items were read.
 fn item_count(front: &Front) -> u32
-    requires { IsFront (front_in front.now) }
+    requires { AreFirstItems (front_in front.now) }
     ensures count { result ≡ items_in (front_in front.now) }
     ensures few { result < 100000 }
 {

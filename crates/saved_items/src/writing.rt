@@ -2,8 +2,8 @@
 ghost use Rattle.std.specs.Prelude.{◌≡◌, ◌++◌, [], ◌∷◌, OnOk, codes};
 ghost use Rattle.std.specs.List.{join_with_byte};
 ghost use Rattle.scaled_decimal.specs.PlainTexts.{plain_text, whole_text};
-ghost use Rattle.saved_items.specs.SavedBooks.{day_word, end_text, head_text, line_of, plan_text};
-ghost use Rattle.saved_items.specs.SavedBooks.{run_count_text, run_text, run_words, saved_plan};
+ghost use Rattle.saved_items.specs.SavedBooks.{day_word, end_text, head_text, line_of_words, saved_plan_text};
+ghost use Rattle.saved_items.specs.SavedBooks.{run_count_text, saved_run_text, run_words, saved_plan};
 ghost use Rattle.saved_items.specs.SavedBooks.{plan_words, work_text};
 ghost use Rattle.saved_items.specs.private.SavedBooks.{values_text};
 
@@ -25,7 +25,7 @@ pub fn push_head(out: &mut Vec<u8>, runs: u64, steps: u64, plans: u64) -> Result
 /// A plan with its day.
 pub fn push_plan(out: &mut Vec<u8>, day: Day, plan: &[u8], limits: &[u8]) -> Result<(), AllocError>
     ensures { OnOk result
-        (out.new.items ≡ out.old.items ++ plan_text (saved_plan day plan.now limits.now)) }
+        (out.new.items ≡ out.old.items ++ saved_plan_text (saved_plan day plan.now limits.now)) }
 {
     push_plan_line(out, day, plan.len() as u64, limits.len() as u64)?;
     push(out, plan)?;
@@ -42,7 +42,7 @@ pub fn push_run_count(out: &mut Vec<u8>, runs: u64) -> Result<(), AllocError>
 
 /// A run.
 pub fn push_run(out: &mut Vec<u8>, run: &Record) -> Result<(), AllocError>
-    ensures { OnOk result (out.new.items ≡ out.old.items ++ run_text run.now) }
+    ensures { OnOk result (out.new.items ≡ out.old.items ++ saved_run_text run.now) }
 {
     push_run_words(out, run)?;
     push(out, b"\n")
@@ -66,7 +66,7 @@ fn push_work(out: &mut Vec<u8>, runs: u64, steps: u64) -> Result<(), AllocError>
 
 /// The line of a plan: its day, and the lengths of its texts.
 fn push_plan_line(out: &mut Vec<u8>, day: Day, plan: u64, limits: u64) -> Result<(), AllocError>
-    ensures { OnOk result (out.new.items ≡ out.old.items ++ line_of (plan_words day plan limits)) }
+    ensures { OnOk result (out.new.items ≡ out.old.items ++ line_of_words (plan_words day plan limits)) }
 {
     push(out, b"plan ")?;
     push_day(out, day)?;

@@ -1,4 +1,4 @@
--- The seven roundings of a quotient over unbounded whole numbers, as java.math.RoundingMode documents them.
+-- Roundings of a quotient over unbounded whole numbers, as java.math.RoundingMode documents them: all but UNNECESSARY.
 -- Source: the documentation of java.math.RoundingMode.
 use Rattle.std.specs.Prelude.{◌≡◌, ◌≢◌, ◌*◌, ◌<◌, ◌≤◌, ◌%◌, ℤ, pos, negsuc, ◌+ℤ◌, ◌-ℤ◌, ◌*ℤ◌, neg_ℤ, ◌≤ℤ◌, ◌<ℤ◌, unsigned_abs}
 use Rattle.scaled_decimal.specs.declared.rounding.Mode.{Mode}

@@ -1,4 +1,4 @@
-//! Decimals of 128 bits with the arithmetic of `java.math.BigDecimal`, and its seven roundings.
+//! Decimals of 128 bits with the arithmetic of `java.math.BigDecimal`, and seven of its eight roundings: `UNNECESSARY` isn't one.
 //!
 //! A kept decimal has a numerator of at most 10^37 in magnitude and a scale of 0 to 30. No operation refuses, rounds
 //! unasked or takes memory: each has the condition that the numbers it works with are within these limits.

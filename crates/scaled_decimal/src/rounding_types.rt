@@ -1,4 +1,4 @@
-//! The seven ways of rounding as types.
+//! Ways of rounding as types.
 ghost use Rattle.std.specs.Prelude.{◌≢◌, pos};
 ghost use Rattle.scaled_decimal.specs.Rounding.{Rounds, StaysNear, RisesWithQuotient};
 ghost use Rattle.scaled_decimal.specs.laws.RoundingLaws.{rounds_near, rounds_rising};

@@ -2,7 +2,7 @@
 use Rattle.std.specs.Prelude.{◌≡◌, ◌≢◌, ℕ, ◌+◌, ◌-◌, ◌<◌, ◌≤◌, ◌⊎◌, ◌==◌, List, Bool, Option, Some, None, length, slice_index, slice_index_or, All, Contains, MatchBool, MatchOption, IfSome, count_by}
 use Rattle.pap_types.specs.Limits.{longest_chain}
 use Rattle.call_order.specs.Graphs.{Graph}
-use Rattle.call_order.specs.Chains.{IsChain, BeginsMore, content_at}
+use Rattle.call_order.specs.Chains.{IsCallChain, BeginsMore, content_at}
 
 -- each executed method is one of the graph's
 abbrev pub AreKnown : Graph → List ℕ → Type 0
@@ -18,7 +18,7 @@ level_at ls i = slice_index_or ls i None
 -- t is the number of methods in the longest chain that a method begins, and at most n
 pub record IsLongest (g : Graph) (n i t : ℕ) : Type 0 where
   pub begins : BeginsMore g (t - 1) i
-  pub ends : (rest : List ℕ) → IsChain g i rest → length rest < t
+  pub ends : (rest : List ℕ) → IsCallChain g i rest → length rest < t
   pub few : t ≤ n
 
 -- a method's level is that number, and a method that begins a chain of more than n methods has none

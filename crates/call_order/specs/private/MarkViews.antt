@@ -3,7 +3,7 @@ use Rattle.std.specs.Prelude.{◌≡◌, ℕ, ◌<◌, ◌≤◌, ◌⊎◌, Boo
 use Rattle.call_order.specs.Graphs.{Graph}
 use Rattle.call_order.specs.Chains.{Executes, Reaches, ReachesItself}
 use Rattle.call_order.specs.Orders.{HasNone}
-use Rattle.call_order.specs.Faults.{IsFirst}
+use Rattle.call_order.specs.Faults.{IsFirstBelow}
 
 abbrev pub is_marked : List Bool → ℕ → Bool
 is_marked seen k = slice_index_or seen k false
@@ -38,4 +38,4 @@ TellsCycle g i answer = MatchBool answer (ReachesItself g i) (¬ (ReachesItself 
 -- the first method that reaches itself, or none does
 abbrev pub IsFirstInCycle : Graph → Option ℕ → Type 0
 IsFirstInCycle g first =
-    MatchOption first (HasNone (ReachesItself g) (length g)) (λ i. IsFirst (ReachesItself g) (length g) i)
+    MatchOption first (HasNone (ReachesItself g) (length g)) (λ i. IsFirstBelow (ReachesItself g) (length g) i)

@@ -7,7 +7,7 @@ use Rattle.call_order.specs.declared.fault.OrderFault.{OrderFault}
 use Rattle.call_order.specs.Graphs.{Graph, graph_of}
 use Rattle.call_order.specs.Chains.{BeginsMore}
 use Rattle.call_order.specs.Orders.{IsOrder, IsAcyclic, HasShortChains}
-use Rattle.call_order.specs.Faults.{IsFirst}
+use Rattle.call_order.specs.Faults.{IsFirstBelow}
 use Rattle.call_order.specs.OrderClauses.{OrderAnswer}
 
 -- an order of the methods, however long the plan is
@@ -23,4 +23,4 @@ ChainsAnswer f (Err fault) = OrderAnswer f (Err fault)
 -- a graph is a plan's, and its first method that begins a chain of more than 64 has a number
 pub record IsLongFault (f : Flowchart) (g : Graph) (first : ℕ) : Type 0 where
   pub graph : g ≡ graph_of f.methods
-  pub long : IsFirst (BeginsMore g longest_chain) (length g) first
+  pub long : IsFirstBelow (BeginsMore g longest_chain) (length g) first

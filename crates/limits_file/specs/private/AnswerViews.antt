@@ -5,7 +5,7 @@ use Rattle.limits_file.specs.declared.fault.LimitsFault.TheVariants as answered
 use Rattle.limits_file.specs.RangeFiles.{IsNoToml}
 use Rattle.limits_file.specs.Faults.{Fault, too_long, no_toml, bad_key, bad_bound}
 
--- the answer is so; want of memory tells nothing
+-- the answer is so; that memory ran out says nothing
 abbrev pub Tells : {A : Type 0} → (Result A Fault → Type 0) → Result A LimitsFault → Type 0
 Tells IsSo (Ok value) = IsSo (Ok value)
 Tells IsSo (Err answered.Toml) = IsSo (Err no_toml)

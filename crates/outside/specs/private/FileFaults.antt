@@ -5,7 +5,7 @@ use Rattle.std.specs.declared.io.ErrorKind.TheVariants.{NotFound, NotADirectory,
 use Rattle.outside.specs.declared.file_fault.FileFault.{FileFault}
 use Rattle.outside.specs.declared.file_fault.FileFault.TheVariants.{Missing, Forbidden, Folder, Unreadable}
 
--- the fault that an error of this kind is; want of memory is none
+-- the fault that an error of this kind is; that memory ran out is none
 abbrev pub fault_of : ErrorKind → Option FileFault
 fault_of OutOfMemory = None
 fault_of NotFound = Some Missing

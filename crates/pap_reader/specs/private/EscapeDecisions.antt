@@ -1,4 +1,4 @@
--- What the word of an escape stands for, found from its front.
+-- What the word of an escape stands for, found from its beginning.
 use Rattle.std.specs.Prelude.{ℕ, Bool, ◌&&◌, ◌==◌, nat_le, Option, Some, None, List, [], ◌∷◌, codes, if◌then◌else◌}
 use Rattle.std.specs.Char.{is_digit}
 use Rattle.std.specs.List.{list_all}

@@ -5,10 +5,10 @@ use Rattle.std.specs.declared.cmp.Ordering.TheVariants.{Less}
 use Rattle.payroll_records.specs.Orders.{day_cmp, key_cmp}
 use Rattle.payroll_records.specs.Tables.{Text, key_of}
 use Rattle.payroll_records.specs.declared.record.Record.{Record}
-use Rattle.saved_items.specs.Fronts.{Front, nothing, titled, worked, planning, running}
+use Rattle.saved_items.specs.Fronts.{FirstItems, nothing, titled, worked, planning, running}
 use Rattle.payroll_records.specs.Limits.{most_records}
 use Rattle.plan_calendar.specs.Limits.{most_plans}
-use Rattle.saved_items.specs.SavedBooks.{SavedPlan, Saved, day_of, IsWork, IsRun, title_text, work_text, plan_count_text, plan_text, run_count_text, run_text, end_text}
+use Rattle.saved_items.specs.SavedBooks.{SavedPlan, Saved, saved_day, IsWork, IsRun, title_text, work_text, plan_count_text, saved_plan_text, run_count_text, saved_run_text, end_text}
 
 -- an item but for the last line
 pub data Item : Type 0 where
@@ -23,19 +23,19 @@ abbrev pub item_text : Item → Text
 item_text title = title_text
 item_text (work runs steps) = work_text runs steps
 item_text (plan_count count) = plan_count_text count
-item_text (plan p) = plan_text p
+item_text (plan p) = saved_plan_text p
 item_text (run_count count) = run_count_text count
-item_text (run r) = run_text r
+item_text (run r) = saved_run_text r
 
 -- the day is behind those of all plans, the key behind those of all runs
 abbrev pub IsLater : List SavedPlan → SavedPlan → Type 0
-IsLater plans p = AllByRecursion (λ q. day_cmp (day_of q) (day_of p) ≡ Less) plans
+IsLater plans p = AllByRecursion (λ q. day_cmp (saved_day q) (saved_day p) ≡ Less) plans
 
 abbrev pub IsBeyond : List Record → Record → Type 0
 IsBeyond records r = AllByRecursion (λ q. key_cmp (key_of q) (key_of r) ≡ Less) records
 
 -- the item is of its form after these
-abbrev pub Fits : Front → Item → Type 0
+abbrev pub Fits : FirstItems → Item → Type 0
 Fits nothing title = Unit {0}
 Fits titled (work runs steps) = IsWork runs steps
 Fits (worked runs steps) (plan_count count) = count ≤ most_plans
@@ -46,7 +46,7 @@ Fits (running runs steps plans count records) (run r) =
     (length records < count) × IsRun r × IsBeyond records r
 Fits front item = ⊥
 
-abbrev pub with_item : Front → Item → Front
+abbrev pub with_item : FirstItems → Item → FirstItems
 with_item nothing title = titled
 with_item titled (work runs steps) = worked runs steps
 with_item (worked runs steps) (plan_count count) = planning runs steps count []
@@ -57,18 +57,18 @@ with_item (running runs steps plans count records) (run r) =
 with_item front item = front
 
 -- the bytes go on with an item that is of its form
-pub record Goes (front : Front) (bytes : Text) : Type 0 where
+pub record Goes (front : FirstItems) (bytes : Text) : Type 0 where
   pub item : Item
   pub fits : Fits front item
   pub rest : Text
   pub text : bytes ≡ item_text item ++ rest
 
 -- all items of a saved book but its last line
-abbrev pub all_of : Saved → Front
+abbrev pub all_of : Saved → FirstItems
 all_of s = running s.runs s.steps s.plans (length s.records) s.records
 
 -- the items are all of a saved book, and its last line follows
-pub record Ends (front : Front) (bytes : Text) : Type 0 where
+pub record Ends (front : FirstItems) (bytes : Text) : Type 0 where
   pub saved : Saved
   pub all : front ≡ all_of saved
   pub last : bytes ≡ end_text

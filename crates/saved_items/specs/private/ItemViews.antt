@@ -37,17 +37,17 @@ abbrev pub ReadsBehind : (items.Item → Type 0) → Line → Option (Item × Bo
 ReadsBehind IsOfForm line next = (bytes : Text) → ReadsLine bytes line → Reads IsOfForm bytes next
 
 -- the items so far, by what comes next
-abbrev pub front_at : Stage → Saved → front.Front
+abbrev pub front_at : Stage → Saved → front.FirstItems
 front_at stage.Title s = front.nothing
 front_at stage.Work s = front.titled
 front_at stage.PlanCount s = front.worked s.runs s.steps
 front_at (stage.Plans count) s = front.planning s.runs s.steps count s.plans
 front_at (stage.Runs count) s = front.running s.runs s.steps s.plans count s.records
 
-abbrev pub front_in : Front → front.Front
+abbrev pub front_in : Front → front.FirstItems
 front_in f = front_at f.stage (saved_in f.items)
 
-abbrev pub records_in : front.Front → List Record
+abbrev pub records_in : front.FirstItems → List Record
 records_in front.nothing = []
 records_in front.titled = []
 records_in (front.worked runs steps) = []
@@ -56,7 +56,7 @@ records_in (front.running runs steps plans count records) = records
 
 -- the plans and the runs of the items so far are all that were read
 pub record IsKnown (f : Front) : Type 0 where
-  pub plans : front.plans_in (front_in f) ≡ map plan_in f.items.plans.items
+  pub plans : front.plans_of_first (front_in f) ≡ map plan_in f.items.plans.items
   pub records : records_in (front_in f) ≡ f.items.records.items
 
 abbrev pub plans_of : List PlanItem → List SavedPlan

@@ -1,6 +1,6 @@
 use Rattle.std.proofs.Common.{◌≡◌, None, ap, length, subst, arith}
 use Rattle.pap_tree.specs.Flowchart.{flowchart_of}
-use Rattle.call_order.specs.Faults.{IsFirst}
+use Rattle.call_order.specs.Faults.{IsFirstBelow}
 use Rattle.call_order.specs.private.LevelViews.{level_at, HaveLevels, IsByLevel}
 use Rattle.call_order.proofs.WholeLemmas.{known}
 use Rattle.call_order.proofs.FoundLemmas.{long_fault, sorted}
@@ -11,7 +11,7 @@ levels_of-requires c = known (flowchart_of c.args.t.now).methods c.args.graph.no
 
 pub refusal-requires : goal.refusal-requires
 refusal-requires c =
-    let first = subst (λ l. IsFirst (λ k. level_at l k ≡ None) (length l) c.in-Some.first) c.deref.ensures.value c.in-Some.ensures in
+    let first = subst (λ l. IsFirstBelow (λ k. level_at l k ≡ None) (length l) c.in-Some.first) c.deref.ensures.value c.in-Some.ensures in
     long_fault (flowchart_of c.args.t.now) _ _ _ c.requires.graph c.in_ok-levels.ensures first
 
 pub by_level-requires-clause-few : goal.by_level-requires-clause-few

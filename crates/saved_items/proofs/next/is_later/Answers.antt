@@ -8,7 +8,7 @@ use Rattle.payroll_records.specs.Orders.{day_cmp}
 use Rattle.payroll_records.proofs.Laws.{day_total}
 use Rattle.saved_items.specs.private.ItemDecisions.{IsLater}
 use Rattle.saved_items.specs.private.ItemViews.{plans_of}
-use Rattle.saved_items.specs.SavedBooks.{SavedPlan, day_of}
+use Rattle.saved_items.specs.SavedBooks.{SavedPlan, saved_day}
 use Rattle.saved_items.specs.ItemFaults.{plan_in}
 use Rattle.saved_items.proofs.ValueListLemmas.{last_above, all_get, by_less, last_of_map}
 use Rattle.saved_items.proofs.next.is_later.Goals as goal
@@ -23,7 +23,7 @@ returns-in-Some c = λ p same.
     (arith, length-map plans plan_in, c.in-Some.ensures.item.3.0) in
     by_less (day_cmp last.day c.args.day) c.is_lt.result (IsLater (plans_of plans) p)
     (c.is_lt.ensures ∙ ap is_lt c.cmp.ensures)
-    (λ less. last_above day_cmp day_total day_of (plans_of plans) (length plans - 1) last p.day c.requires long there
+    (λ less. last_above day_cmp day_total saved_day (plans_of plans) (length plans - 1) last p.day c.requires long there
     (ap (day_cmp last.day) same ∙ less))
-    (λ all. ap (day_cmp last.day) (sym same) ∙ all_get (λ (q : SavedPlan). day_cmp (day_of q) (day_of p) ≡ Less)
+    (λ all. ap (day_cmp last.day) (sym same) ∙ all_get (λ (q : SavedPlan). day_cmp (saved_day q) (saved_day p) ≡ Less)
     (plans_of plans) (length plans - 1) last all there)

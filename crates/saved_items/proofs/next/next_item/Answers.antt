@@ -2,7 +2,7 @@ use Rattle.std.proofs.Common.{◌≡◌, ℕ, length, sym, subst, ap, arith}
 use Rattle.std.specs.Prelude.{IfOk}
 use Rattle.std.proofs.lemmas.Result.{IfOk-weaker}
 use Rattle.std.proofs.Math.ListN.{length-map}
-use Rattle.saved_items.specs.Fronts.{IsFront, planning}
+use Rattle.saved_items.specs.Fronts.{AreFirstItems, planning}
 use Rattle.saved_items.specs.private.ItemDecisions.{Fits}
 use Rattle.saved_items.specs.private.ItemViews.{Reads, front_at, plans_of}
 use Rattle.saved_items.specs.ItemFaults.{plan_in, saved_in}
@@ -40,7 +40,7 @@ pub returns-in-Plans-2 : goal.returns-in-Plans-2
 returns-in-Plans-2 c =
     let items = c.args.front.now.items in
     let plans = plans_of items.plans.items in
-    let sound = subst (λ (s : Stage). IsFront (front_at s (saved_in items))) c.in-Plans.is c.requires in
+    let sound = subst (λ (s : Stage). AreFirstItems (front_at s (saved_in items))) c.in-Plans.is c.requires in
     let listed = ap length c.as_slice-plans.ensures.value in
     let even : length plans ≡ c.in-Plans.count = omega (
       arith,
