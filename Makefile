@@ -1,7 +1,7 @@
-# `make look` runs the program on an example without a proof; `make build` proves and builds build/papcalc, `make demo` runs
+# `make look` checks an example without a proof; `make build` proves and builds build/papcalc, `make demo` runs
 # that on the examples; `make install` puts it and its manual page under PREFIX; `make test` is the whole gate.
 .PHONY: build author look demo install uninstall deb test answers rows client-java wrong-bodies decimal-tool bench-decimal bench-machine bench-plan \
-    refused-memory kill-trials bench-book bench-worst bench-intervals bench-processes check-java embedded cluster-trials
+    refused-memory edit-memory kill-trials bench-book bench-worst bench-intervals bench-processes check-java embedded cluster-trials
 
 PREFIX ?= /usr/local
 
@@ -12,17 +12,18 @@ build:
 	mkdir -p build
 	cp crates/papcalc/out/papcalc build/papcalc
 
-# The companion program for authors of flowcharts: build/pap_author draws a flowchart as a page, and begins a range file.
+# The companion program for authors of flowcharts: build/pap_author draws a flowchart as a page, begins a range file, and
+# compares two flowcharts.
 author:
 	python3 tools/build.py "$(JOBS)" pap_author
 	cd crates/pap_author && python3 ../../tools/rt.py run -- --version
 	mkdir -p build
 	cp crates/pap_author/out/pap_author build/pap_author
 
-# Proves nothing and keeps nothing: the kit compiles the program with tests at run time and prints what it wrote.
+# Proves nothing and keeps nothing: the kit compiles a program that has `check` alone, with tests at run time, and prints what it wrote.
 look:
-	cd crates/papcalc && rt try --data payroll_tax.xml=../../examples/payroll_tax.xml \
-	    --data payroll_tax.toml=../../examples/payroll_tax.toml -- check payroll_tax.xml payroll_tax.toml
+	TRY=1 tools/bench.sh look --data payroll_tax.xml=$(CURDIR)/examples/payroll_tax.xml \
+	    --data payroll_tax.toml=$(CURDIR)/examples/payroll_tax.toml -- payroll_tax.xml payroll_tax.toml
 
 demo: build
 	build/papcalc check examples/payroll_tax.xml examples/payroll_tax.toml
@@ -33,7 +34,8 @@ demo: build
 # and test tables (these need Python 3.9), completion for bash and zsh, the manual page, the documents, the clients and the examples.
 # DESTDIR stands before PREFIX, for packages.
 SHARE = $(DESTDIR)$(PREFIX)/share
-TOOLS_FOR_USERS = tools/split_table.py tools/table_parts.py tools/table_rows.py tools/parts.py tools/run_part.sh tools/compare_table.py
+TOOLS_FOR_USERS = tools/split_table.py tools/table_parts.py tools/table_rows.py tools/parts.py tools/earlier_parts.py tools/run_part.sh \
+    tools/compare_table.py tools/test_tables.py tools/tool_end.py
 install:
 	@test -x build/papcalc || { echo 'install: there is no build/papcalc yet: make build makes it' >&2; exit 1; }
 	install -D -m 755 build/papcalc '$(DESTDIR)$(PREFIX)/bin/papcalc'
@@ -72,6 +74,11 @@ answers: build
 refused-memory: build
 	python3 tools/refused_memory.py build/papcalc
 
+# Each piece of memory that an edit of a book asks for refused in turn, for an edit of each kind: the book stays as it was, and the same
+# edit then succeeds (needs a C compiler).
+edit-memory: build
+	python3 tools/edit_memory.py
+
 # A program that keeps a year killed at 2,000 random moments.
 kill-trials: build
 	python3 tools/kill_trials.py build/papcalc 2000
@@ -90,7 +97,7 @@ rows:
 	tools/worked_rows.sh "$(CURDIR)/build/papcalc"
 	python3 tools/call_rows.py build/papcalc ../shared/rows/calls.json
 
-# Tries the wrong bodies of all crates or of those of CRATES="a b", also those that the gate leaves out, and says by which goals each is
+# Tries the wrong bodies of all crates or of CRATES="a b/EDIT", also those that the gate leaves out, and says by which goals each is
 # refused. What is known of an edit is kept, so a run that was cut off is gone on with.
 wrong-bodies:
 	python3 tools/wrong_bodies.py $(CRATES)
@@ -153,6 +160,7 @@ bench-processes: build
 	python3 tools/bench_processes.py build/papcalc
 
 # A million pay runs in parts on one machine, by Slurm on one to three nodes and by Dask, with a node, a task and a worker killed and a disk
-# full on the way (needs Debian's slurm-wlm and python3-distributed, and root; RUNS=N for other tables).
+# full on the way (needs Debian's slurm-wlm and python3-distributed, and root; RUNS=N for other tables, RUNS='N full' for a full-size
+# flowchart).
 cluster-trials: build
 	python3 tools/cluster_trials.py build/papcalc $(RUNS)

@@ -1,9 +1,11 @@
 #!/usr/bin/env python3
-"""The index of printed words at the head of docs/DEFINITIONS.md: check_index.py, from the top of the repository.
+"""The ways from a word to its definition and its code: check_index.py, from the top of the repository.
 
-Each text that the definitions of answers print (`codes ".."` in the specs/ of these crates) has a row; each row's words are printed by
-its definition, which stands in its file."""
+In the index of printed words at the head of docs/DEFINITIONS.md each text that the definitions of answers print (`codes ".."` in the specs/
+of these crates) has a row; each row's words are printed by its definition, which stands in its file. In the tables of docs/GLOSSARY.md each
+file and folder that is named is there, and each name of a row with such a place stands in one of these."""
 import glob
+import os
 import re
 import sys
 
@@ -29,9 +31,45 @@ def rows():
     section = section[:section.index("\n## ", 3)]
     for line in section.splitlines():
         cells = [cell.strip() for cell in re.split(r"(?<!\\)\|", line)[1:-1]]
-        if len(cells) == 4 and cells[0].startswith("`"):
+        if len(cells) >= 4 and cells[0].startswith("`"):
             words, names = ([span.replace("\\|", "|") for span in re.findall(r"`([^`]*)`", cell)] for cell in (cells[0], cells[2]))
             yield words, names, re.search(r"`([^`]*)`", cells[3]).group(1)
+
+
+def sources_of(place):
+    """The sources that a place of the glossary names: a crate, a folder of it, or a file with its ending or without."""
+    if not re.fullmatch(r"[a-z_]+(?:/(?:specs|src)(?:/[\w.]+)*)?", place):
+        return None
+    at = f"crates/{place}"
+    found = [path for path in (at, at + ".antt", at + ".rt") if os.path.isfile(path)]
+    for path in glob.glob(at + "/**/*", recursive=True) if os.path.isdir(at) else []:
+        if re.search(r"/(?:specs|src)/.*\.(?:antt|rt)$", path):
+            found.append(path)
+    return found if found or "/" in place else None
+
+
+def glossary():
+    """The faults of the glossary's tables of refusals and of the field's words."""
+    text = open("docs/GLOSSARY.md", encoding="utf-8").read()
+    for line in "".join(re.findall(r"^## (?:Refusals|The field's words)\n(.*?)(?=^## |\Z)", text, re.M | re.S)).splitlines():
+        cells = [cell.strip() for cell in line.strip("|").split("|")]
+        if len(cells) != 3 or set(cells[0]) <= {"-"}:
+            continue
+        folder, named, places = None, [], []
+        for span in [span for cell in cells[1:] for span in re.findall(r"`([^`]+)`", cell)]:
+            beside = f"{folder}/{span}"
+            place = beside if folder and sources_of(beside) else span
+            found = sources_of(place)
+            if found is None:
+                named.append(span)
+            elif not found:
+                yield f"GLOSSARY names {span}, which isn't there"
+            else:
+                places += found
+                folder = place.rpartition("/")[0]
+        words = {word for path in places for word in re.findall(r"[\w-]+", open(path, encoding="utf-8").read())}
+        if places:
+            yield from (f"{name} isn't where GLOSSARY says" for name in named if re.fullmatch(r"\w+", name) and name not in words)
 
 
 def main():
@@ -50,6 +88,7 @@ def main():
         for word in printed_of(open(path, encoding="utf-8").read()):
             if (place, word) not in indexed:
                 wrong.append(f"{word} of {place} has no row")
+    wrong += glossary()
     for line in sorted(wrong):
         print(f"check_index: {line}")
     print(f"check_index: {len(indexed)} printed words are indexed, {len(wrong)} faults")

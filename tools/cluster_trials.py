@@ -1,12 +1,14 @@
 #!/usr/bin/env python3
-"""Clusters on this machine that fail on the way: cluster_trials.py PROGRAM [RUNS], from the top of the repository.
+"""Clusters on this machine that fail on the way: cluster_trials.py PROGRAM [RUNS [full]], from the top of the repository.
 
-A table of RUNS pay runs (1,000,000 where nothing is said, and at least 480) of examples/payroll_tax.xml is run in parts by four processes, by Slurm on one, two
-and three nodes, and by Dask on three workers. On the way a node of Slurm is killed with all that runs on it, the program of a task is killed,
-the disk of a folder is full, and a worker of Dask is killed. Each joined report is byte for byte that of the four processes, and that of a
-table of at most 48,000 runs is that of one book. Each measurement is made once, and is of this machine with what else it does."""
+A table of RUNS pay runs (1,000,000 where nothing is said, and at least 480) of examples/payroll_tax.xml, or with `full` of a flowchart as
+large as the published ones (tools/full_plan.py, 25 values a run), is run in parts by four processes, by Slurm on one, two and three nodes,
+and by Dask on three workers. On the way a node of Slurm is killed with all that runs on it, the program of a task is killed, the disk of a
+folder is full, and a worker of Dask is killed. Each joined report is byte for byte that of the four processes, and that of a table of at
+most 48,000 runs is that of one book. Each measurement is made once, and is of this machine with what else it does."""
 import os
 import random
+import resource
 import shutil
 import signal
 import subprocess
@@ -14,12 +16,13 @@ import sys
 import tempfile
 import time
 
+import full_plan
 import parts
 import split_table
 import trial_clusters
 
 TOOLS = os.path.dirname(os.path.abspath(__file__))
-PLAN = os.path.abspath("examples/payroll_tax")
+SMALL_PLAN = os.path.abspath("examples/payroll_tax")
 MONTHS = 12
 IN_ONE_BOOK = 48_000
 SMALL_PARTS = 10
@@ -35,16 +38,25 @@ def count(name, holds):
     print(f"{'ok' if holds else 'failed'}: {name}", flush=True)
 
 
-def write_table(name, runs):
+def small_values(rng):
+    return {"PERIOD": 2, "PAY": rng.randint(150_000, 900_000), "TAX_CLASS": rng.randint(1, 6), "CHURCH_RATE": rng.choice(["", 8, 9])}
+
+
+def full_values(rng):
+    values = {"PERIOD": 2, "TAX_CLASS": rng.randint(1, 6)}
+    values |= {f"AMOUNT_{number}": rng.randint(0, 900_000) for number in range(1, 22)}
+    return values | {f"RATE_{number}": f"0.{rng.randint(0, 4_999):04d}" for number in range(1, 3)}
+
+
+def write_table(name, runs, values):
     """Twelve months of employees that stand in another order in each."""
     rng = random.Random(11)
-    employees = [(f"E{number:06d}", f",2,{rng.randint(150_000, 900_000)},{rng.randint(1, 6)},{rng.choice(['', 8, 9])}\n")
-                 for number in range(runs // MONTHS)]
+    employees = [(f"E{number:06d}", "," + ",".join(map(str, values(rng).values())) + "\n") for number in range(runs // MONTHS)]
     with open(name, "w", encoding="ascii") as table:
-        table.write("employee,month,day,PERIOD,PAY,TAX_CLASS,CHURCH_RATE\n")
+        table.write(",".join(["employee,month,day", *values(rng)]) + "\n")
         for month in range(1, MONTHS + 1):
             rng.shuffle(employees)
-            table.writelines(f"{employee},2026-{month:02d},2026-{month:02d}-28{values}" for employee, values in employees)
+            table.writelines(f"{employee},2026-{month:02d},2026-{month:02d}-28{fields}" for employee, fields in employees)
 
 
 def split(table, folder, rows):
@@ -67,11 +79,20 @@ def is_whole(folder, wanted):
     return same
 
 
-def timed(what, runs, work):
-    began = time.monotonic()
-    work()
-    seconds = time.monotonic() - began
-    print(f"{what}: {runs} runs in {seconds:.1f} s, {runs / seconds:.0f} runs a second; load of the machine {os.getloadavg()[0]:.0f}", flush=True)
+def processor_seconds():
+    """What this process and those that ended under it took."""
+    taken = [resource.getrusage(who) for who in (resource.RUSAGE_SELF, resource.RUSAGE_CHILDREN)]
+    return sum(one.ru_utime + one.ru_stime for one in taken)
+
+
+def timed(what, runs, work, has_processes=False):
+    """Does the work, and prints how long it took; the processor's time too, where no daemon has the processes."""
+    began, taken = time.monotonic(), processor_seconds()
+    done = work()
+    seconds, taken = time.monotonic() - began, processor_seconds() - taken
+    own = f", {taken:.1f} s of processor" if has_processes else ""
+    print(f"{what}: {runs} runs in {seconds:.1f} s{own}, {runs / seconds:.0f} runs a second; load of the machine {os.getloadavg()[0]:.0f}", flush=True)
+    return done
 
 
 def run_here(manifests, folder, processes):
@@ -86,9 +107,9 @@ def results_in(folder):
 
 # ---- one machine
 
-def one_book(runs):
+def one_book(runs, values):
     """Parts of a table that one book holds."""
-    write_table("small.csv", runs)
+    write_table("small.csv", runs, values)
     manifests = split("small.csv", "small", -(-runs // SMALL_PARTS))
     run_here(manifests, "small", 4)
     script = "".join(open("plans.script", encoding="ascii")) + "load small.csv\nreport\n"
@@ -104,7 +125,7 @@ def by_slurm(nodes, manifests, folder):
     runs = sum(manifest.rows for manifest in manifests)
     with trial_clusters.Slurm(os.path.abspath(f"slurm-{nodes}"), nodes, program) as slurm:
         timed(f"Slurm, nodes {nodes}", runs, lambda: slurm.wait(slurm.submit(len(manifests), os.path.abspath(folder)), MOST_SECONDS))
-    count(f"Slurm with {nodes} nodes has the report of one machine", is_whole(folder, "here.csv"))
+    count(f"Slurm with {nodes} node{'s' * (nodes > 1)} has the report of one machine", is_whole(folder, "here.csv"))
     forget(folder)
 
 
@@ -113,11 +134,12 @@ def killed_on_the_way(manifests, folder):
     with trial_clusters.Slurm(os.path.abspath("slurm-killed"), 3, program) as slurm:
         job = slurm.submit(len(manifests), os.path.abspath(folder))
         wait_for_results(folder, len(manifests) // 4)
-        lost = sorted(slurm.tasks(job, "RUNNING"))
+        lost, _ = a_program(folder, slurm.namespace("n3"))
         slurm.kill("n3")
-        print(f"n3 was killed while the parts {lost} ran on three nodes", flush=True)
+        print(f"n3 was killed while it ran {lost}", flush=True)
         wait_for_results(folder, len(manifests) // 2)
-        part = kill_a_program(folder)
+        part, process = a_program(folder)
+        os.kill(process, signal.SIGKILL)
         print(f"the program of {part} was killed", flush=True)
         slurm.wait(job, MOST_SECONDS)
         said = text_of(f"{slurm.folder}/task-{int(part[len('part-'):])}.log")
@@ -132,22 +154,22 @@ def wait_for_results(folder, number):
     trial_clusters.wait_until(lambda: results_in(folder) >= number, f"{number} results are there", MOST_SECONDS)
 
 
-def kill_a_program(folder):
-    """Kills one program that runs a part of the folder. Gives the part's name."""
+def a_program(folder, namespace=None):
+    """Waits for a program that runs a part of the folder, in this process namespace where one is said. Gives the part's name and the process."""
     held = []
 
     def is_found():
-        held[:] = [(int(process), part) for process in os.listdir("/proc") if process.isdecimal() for part in [part_run_by(process, folder)] if part]
+        held[:] = [(part, int(process)) for process in os.listdir("/proc") if process.isdecimal()
+                   for part in [part_run_by(process, folder, namespace)] if part]
         return held
-    trial_clusters.wait_until(is_found, "a program runs")
-    os.kill(held[0][0], signal.SIGKILL)
-    return held[0][1]
+    trial_clusters.wait_until(is_found, "a program runs", pause=0.001)
+    return held[0]
 
 
-def part_run_by(process, folder):
+def part_run_by(process, folder, namespace):
     """The part whose result this process of the program writes, if it does."""
     try:
-        if os.readlink(f"/proc/{process}/exe") != program:
+        if os.readlink(f"/proc/{process}/exe") != program or namespace and os.readlink(f"/proc/{process}/ns/pid") != namespace:
             return None
         written = os.readlink(f"/proc/{process}/fd/1")
     except OSError:
@@ -198,10 +220,10 @@ def told_missing(folder, names):
 
 def by_dask(python, manifests, folder):
     runs = sum(manifest.rows for manifest in manifests)
-    for more in [], ["--send"]:
+    for how, more in [("a shared folder", []), ("sent tables", ["--send"])]:
         with trial_clusters.Dask(os.path.abspath("dask"), 3, python) as dask:
-            timed(f"Dask, workers 3 {more}", runs, lambda: dask.payroll(program, *more, os.path.abspath(folder)).wait(MOST_SECONDS))
-        count(f"Dask with 3 workers has the report of one machine {more}", is_whole(folder, "here.csv"))
+            timed(f"Dask, workers 3, {how}", runs, lambda: dask.payroll(program, *more, os.path.abspath(folder)).wait(MOST_SECONDS))
+        count(f"Dask with 3 workers and {how} has the report of one machine", is_whole(folder, "here.csv"))
         forget(folder)
     with trial_clusters.Dask(os.path.abspath("dask"), 3, python) as dask:
         running = dask.payroll(program, "--send", os.path.abspath(folder))
@@ -218,15 +240,33 @@ def text_of(name):
         return file.read()
 
 
-def main(runs):
+def put_plans(is_full):
+    """The script that puts the flowchart. Gives what a run's values are."""
+    plan = SMALL_PLAN
+    if is_full:
+        full_plan.main(".")
+        plan = os.path.abspath("full")
     with open("plans.script", "w", encoding="ascii") as plans:
-        plans.write(f"plan 2026-01-01 {PLAN}.xml {PLAN}.toml\n")
-    one_book(min(runs, IN_ONE_BOOK))
-    write_table("table.csv", runs)
-    manifests = split("table.csv", "folder", runs // PARTS)
-    timed("four processes", runs, lambda: run_here(manifests, "folder", 4))
-    parts.join("folder", "here.csv", "report")
+        plans.write(f"plan 2026-01-01 {plan}.xml {plan}.toml\n")
+    return full_values if is_full else small_values
+
+
+def on_this_machine(runs, values):
+    """The table in parts, run by four processes: what the clusters' reports are compared with. Gives the manifests."""
+    runs -= runs % MONTHS
+    write_table("table.csv", runs, values)
+    manifests = timed("split", runs, lambda: split("table.csv", "folder", runs // PARTS), True)
+    timed("four processes", runs, lambda: run_here(manifests, "folder", 4), True)
+    timed("join", runs, lambda: parts.join("folder", "here.csv", "report"), True)
+    print(f"table of {os.path.getsize('table.csv') >> 20} MiB, report of {os.path.getsize('here.csv') >> 20} MiB, {len(manifests)} parts", flush=True)
     forget("folder")
+    return manifests
+
+
+def main(runs, is_full):
+    values = put_plans(is_full)
+    one_book(min(runs, IN_ONE_BOOK), values)
+    manifests = on_this_machine(runs, values)
     if trial_clusters.has_slurm() and os.getuid() == 0:
         for nodes in 1, 2, 3:
             by_slurm(nodes, manifests, "folder")
@@ -245,7 +285,7 @@ if __name__ == "__main__":
     program = os.path.realpath(sys.argv[1])
     with tempfile.TemporaryDirectory(prefix="papcalc-cluster-") as scratch:
         os.chdir(scratch)
-        main(int(sys.argv[2]) if sys.argv[2:] else 1_000_000)
+        main(int(sys.argv[2]) if sys.argv[2:] else 1_000_000, sys.argv[3:] == ["full"])
         os.chdir(TOOLS)
     print(f"cluster_trials: {passed} passed, {failed} failed")
     sys.exit(1 if failed or not passed else 0)

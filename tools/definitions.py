@@ -90,8 +90,24 @@ def specs_of(crate):
     return [file for file in files if file.definitions]
 
 
+def code_of(crate, file, name):
+    """The sources of a crate whose contracts cite a definition, or else those of the nearest definitions of the crate that do."""
+    sources = [(path, rooms.imports(open(path, encoding="utf-8").read())) for path in sorted(glob.glob(f"crates/{crate}/src/**/*.rt", recursive=True))]
+    files = {rooms.module_of(path): rooms.File(path) for path in sorted(glob.glob(f"crates/{crate}/specs/**/*.antt", recursive=True))}
+    citing = {(rooms.module_of(file.path), name)}
+    seen = set(citing)
+    while citing:
+        found = [path for path, brought in sources if citing & set(brought.values())]
+        if found:
+            return found
+        citing = {(module, one) for module, other in files.items() for item in other.definitions for one in item.names
+                  if any((other.imports.get(word, (module, word))) in citing for word in item.words)} - seen
+        seen |= citing
+    return []
+
+
 def printed_rows():
-    """A row for each definition that prints words, with these words."""
+    """A row for each definition that prints words, with these words and the sources that write them."""
     for crate in ANSWERS:
         for file in specs_of(crate):
             if file.path in TAKEN:
@@ -103,7 +119,8 @@ def printed_rows():
                 if words and names:
                     comment = dict(file.definitions).get(names[0], "")
                     shown = ", ".join("`" + word.replace("|", "\\|") + "`" for word in words)
-                    yield f"| {shown} | {sentence(comment)} | `{names[0]}` | [`{crate}/specs/{file.name}`](../{file.path}) |"
+                    code = ", ".join(f"[`{path.split('/src/')[1]}`](../{path})" for path in code_of(crate, file, names[0]))
+                    yield f"| {shown} | {sentence(comment)} | `{names[0]}` | [`{crate}/specs/{file.name}`](../{file.path}) | {code} |"
 
 
 def definitions_page(faults):
@@ -119,8 +136,9 @@ def definitions_page(faults):
         shown = f"[`{crate}`](#{crate})" if files else f"`{crate}`"
         yield f"| {shown} | {sentence(head_of(root_of(crate)[0], '//!'))} |"
     yield "\n## Printed words\n"
-    yield "Each text that an answer prints, with the definition that says so. PROFILE says when each comes.\n"
-    yield "| printed | is | definition | file |\n|---|---|---|---|"
+    yield ("Each text that an answer prints, with the definition that says so and the sources in the crate's `src/` that write it. "
+           "[PROFILE.md](PROFILE.md) says when each comes, and [GLOSSARY.md](GLOSSARY.md#refusals) where that is defined and found.\n")
+    yield "| printed | is | definition | file | code |\n|---|---|---|---|---|"
     yield from printed_rows()
     for crate, files in listed:
         if files:

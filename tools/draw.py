@@ -10,11 +10,11 @@ LAYERS = [
     ("the top call", ["pap_cli"]),
     ("scripts", ["script_run", "script_steps", "script_lang"]),
     ("what is told of a book", ["report_csv", "plan_answers", "plain_words", "month_trace", "correction_ledger", "what_if", "book_file"]),
-    ("the book", ["recalc_engine", "book_loads", "book_edits", "book_year"]),
+    ("the book", ["recalc_engine", "book_edits", "book_year"]),
     ("pay runs", ["pay_run", "saved_items", "carry_bindings", "plan_calendar", "payroll_records"]),
     ("accepted flowcharts", ["pap_plan", "plan_text", "interval_analysis", "pap_compiler"]),
     ("what flowcharts mean", ["interval_walk", "call_order", "pap_types", "pap_machine"]),
-    ("texts", ["pap_expr", "expr_spelling", "expr_grammar", "expr_tokens", "plan_notes", "pap_reader", "limits_file"]),
+    ("texts", ["pap_expr", "expr_grammar", "expr_tokens", "plan_notes", "pap_reader", "limits_file"]),
     ("numbers and trees", ["interval_num", "pap_tree", "scaled_decimal"]),
     ("below all", ["outside", "rising_lists", "steps"]),
 ]

@@ -3,7 +3,8 @@
 
 Rows of random texts end where `csv` ends them. Random tables are split, counted and sampled, and the parts have the table's rows. Tables in
 parts, run here and by Slurm and Dask where these are there, have the report and the filing of one book; so they have after a correction,
-for which one part alone is run again. What doesn't belong together is refused by the part's name, and nothing is joined."""
+for which one part alone is run again, and after a corrected table was split as the one before. What doesn't belong together is refused by
+the part's name, and nothing is joined. Then follow the trials of tool_trials.py."""
 import contextlib
 import csv
 import io
@@ -20,6 +21,7 @@ import parts
 import split_table
 import table_parts
 import table_rows
+import tool_trials
 import trial_clusters
 
 TOOLS = os.path.dirname(os.path.abspath(__file__))
@@ -193,6 +195,59 @@ def correct_one_part():
     count("a refused filing leaves no result", joined("--filing", "2026-03")[1].count("has no result of `file 2026-03`") == 2)
 
 
+# ---- split as an earlier table was
+
+def split_alike(table, *words):
+    """The table, split as that in the folder `earlier` was, is in `folder`."""
+    put("table.csv", table)
+    shutil.rmtree("folder", ignore_errors=True)
+    return tool("split", "table.csv", "folder", "--plans", "plans.script", "--like", "earlier", "--program", program, *words)
+
+
+def correct_table():
+    """A corrected table is split as the one before: the part with what is new alone is run again."""
+    split_small(rows=20)
+    for number in range(1, 5):
+        run_here(number)
+    shutil.rmtree("earlier", ignore_errors=True)
+    os.rename("folder", "earlier")
+    part = tool("part", "earlier", "E7x")[1].strip()
+    number = int(part[-4:])
+    table = small_table() + "E7x,2026-02,2026-02-28,2,300000,1,\n"
+    status, said, _ = split_alike(table)
+    count("a corrected table is split as the one before", (status, said) == (0, f"4 parts, 81 runs: part-0001 to part-0004\n3 as in earlier, others: {number}\n"))
+    count("each employee has the part of before", all(parts.part_of(parts.read_manifests("earlier"), row[0]).part == manifest.part
+          for manifest in parts.read_manifests("folder") for row in rows_in(bytes_of(f"folder/{manifest.name}.csv"))))
+    count("the other part's result is missing", joined() == (None, f"split_table: {part} has no result of `report`: it wasn't run, or was refused"))
+    count("the other part is run", run_here(number) == 0)
+    count("the report of the corrected table is that of one book", joined()[0] == report_of(one_book("report")))
+    split_alike(small_table(), "--plans", "plans.script")
+    count("a table that is the same needs no run", joined()[0] == report_of(one_book("report")))
+    for manifest in parts.read_manifests("earlier"):
+        put(f"earlier/{manifest.name}.edits", f"# of {manifest.name}\n")
+    said = split_alike(table)[1]
+    count("edits of the other part stay, which is told", said.splitlines()[2:] == [f"{part} is another than in earlier, whose {part}.edits stay there: "
+                                                                                  "see which of them still hold"])
+    kept = [f"part-{at:04d}.edits" for at in range(1, 5) if at != number]
+    count("edits of the others come along", sorted(name for name in os.listdir("folder") if name.endswith(".edits")) == kept)
+    with open(f"folder/{kept[0]}", "a") as edits:
+        edits.write("# more\n")
+    count("they are copies", bytes_of(f"earlier/{kept[0]}") == f"# of {kept[0][:9]}\n".encode())
+    refused_alike(table, part)
+
+
+def refused_alike(table, part):
+    third = parts.read_manifests("earlier")[2]
+    without = "".join(row for row in small_table().splitlines(True) if not third.first <= row.split(",")[0] <= third.last)
+    status, _, why = split_alike(table, "--rows", "20")
+    count("a part that has grown too large is refused", status == 1 and f"{part} would have 21 runs in " in why and not os.path.exists("folder"))
+    status, _, why = split_alike(without)
+    count("a part without a run is refused", status == 1 and "part-0003 would have no run" in why and not os.path.exists("folder"))
+    os.remove("earlier/part-0003.json")
+    status, _, why = split_alike(table)
+    count("an earlier part that is missing is told", status == 1 and "earlier: part-0003 is missing" in why and not os.path.exists("folder"))
+
+
 # ---- what is refused
 
 def refused_splits():
@@ -255,6 +310,26 @@ def moved_employee():
     run_here(3)
 
 
+def no_table():
+    os.remove("folder/part-0003.report")
+    put("folder/part-0003.csv", "a;b\n")
+    run_here(3)
+
+
+def run_with_other_flowchart():
+    put("folder/plans/0001.xml", bytes_of("folder/plans/0001.xml") + b"\n")
+    run_here(3)
+
+
+def employee_in_two_tables():
+    """A row of the part before stands in a part's table, also by the part's manifest."""
+    row = bytes_of("folder/part-0002.csv").splitlines(True)[-1]
+    put("folder/part-0003.csv", bytes_of("folder/part-0003.csv") + row)
+    files = json.loads(bytes_of("folder/part-0003.json"))["files"]
+    changed_manifest(3, files={**files, "part-0003.csv": parts.digest_of("folder/part-0003.csv")})
+    run_here(3)
+
+
 REFUSED_JOINS = [
     ("a manifest that isn't there", lambda: os.remove("folder/part-0003.json"), "part-0003 is missing: it has no manifest"),
     ("a part twice", lambda: shutil.copy("folder/part-0003.json", "folder/part-0003-b.json"), "part-0003 is there twice: part-0003-b.json, part-0003.json"),
@@ -279,6 +354,9 @@ REFUSED_JOINS = [
      "part-0003 was run with another part-0002.csv, part-0003.csv than is here"),
     ("a result of another program", lambda: changed_result(lambda text: text.replace(b"# papcalc ", b"# papcalc 0.0.9 not ")), "part-0003 was run as papcalc 0.0.9"),
     ("a result of another question", lambda: changed_result(lambda text: text.replace(b"# report\n", b"# owed\n")), "part-0003 was run as owed, papcalc"),
+    ("a part whose table is none", no_table, "part-0003 has no result of `report`: it wasn't run, or was refused"),
+    ("a part that was run with another flowchart", run_with_other_flowchart, "part-0003 was run with another plans/0001.xml than is here"),
+    ("an employee in two tables", employee_in_two_tables, "part-0002 and part-0003 may both have runs of E"),
     ("a table that changed", other_table, "part-0003 was run with another part-0003.csv than is here"),
 ]
 
@@ -326,6 +404,7 @@ def main():
         count(f"is_split_whole of {seed}", is_split_whole(random.Random(seed)))
     run_in_parts()
     correct_one_part()
+    correct_table()
     refused_splits()
     refused_joins()
     if trial_clusters.has_slurm():
@@ -337,6 +416,7 @@ def main():
         run_by_dask(python)
     else:
         print("scale_trials: Dask isn't there (python3-distributed of Debian): no part was run by it")
+    tool_trials.run(count, program)
 
 
 if __name__ == "__main__":

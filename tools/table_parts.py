@@ -147,15 +147,31 @@ def cut_table(table, size, header, paths, most_runs):
         os.remove(piece.path)
 
 
-def make_parts(table, folder, plans, most_runs, program):
-    """Makes the parts of a table in an empty folder: their tables, manifests and flowcharts. Gives the manifests."""
+def cut_alike(table, header, paths, most_runs, earlier):
+    """The pieces of a table, one for each part of an earlier split, with the employees that belong to it."""
+    made = [Piece(next(paths), header) for _ in earlier]
+    distribute(table, [manifest.first.encode() for manifest in earlier[1:]], made)
+    faults = [f"{manifest.name} would have no run" for manifest, piece in zip(earlier, made) if not piece.runs]
+    faults += [f"{manifest.name} would have {piece.runs} runs in {piece.size} bytes, and at most {most_runs} in {LONGEST_TABLE} go into a part"
+               for manifest, piece in zip(earlier, made) if not piece.fits(most_runs)]
+    if faults:
+        raise PartsFault(*faults)
+    return made
+
+
+def make_parts(table, folder, plans, most_runs, program, earlier=None):
+    """Makes the parts of a table in an empty folder: their tables, manifests and flowcharts. Gives the manifests. Where there are those of an
+    earlier split, each employee keeps the part."""
     if not 1 <= most_runs <= MOST_RUNS:
         raise PartsFault(f"{most_runs} isn't a number of runs from 1 to {MOST_RUNS}")
     said, files = version_of(program), copy_plans(plans, folder)
     with open(table, "rb") as file:
         header = table_rows.header_of(file)
     paths = (f"{folder}/piece-{number}" for number in itertools.count())
-    pieces = list(cut_table(table, os.path.getsize(table), header, paths, most_runs))
+    if earlier:
+        pieces = cut_alike(table, header, paths, most_runs, earlier)
+    else:
+        pieces = list(cut_table(table, os.path.getsize(table), header, paths, most_runs))
     if not pieces:
         raise TableFault("there is no run in it")
     split = hashlib.sha256("".join(piece.digest.hexdigest() for piece in pieces).encode()).hexdigest()

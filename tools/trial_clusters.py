@@ -67,12 +67,12 @@ def free_ports(count):
     return ports
 
 
-def wait_until(holds, what, most_seconds=MOST_SECONDS):
+def wait_until(holds, what, most_seconds=MOST_SECONDS, pause=0.2):
     end = time.monotonic() + most_seconds
     while not holds():
         if time.monotonic() > end:
             raise RuntimeError(f"{what}: not within {most_seconds} s")
-        time.sleep(0.2)
+        time.sleep(pause)
 
 
 class Daemons:
@@ -144,6 +144,10 @@ class Slurm(Daemons):
     def start_node(self, node):
         namespace = NAMESPACE if os.getuid() == 0 else []
         self.start(node, [*namespace, "slurmd", "-D", "-N", node], self.env)
+
+    def namespace(self, node):
+        """The process namespace of a node's daemon and its tasks."""
+        return os.readlink(f"/proc/{self.running[node].pid}/ns/pid_for_children")
 
     def command(self, *words):
         return subprocess.run(words, env=self.env, stdout=subprocess.PIPE, stderr=subprocess.DEVNULL, encoding="utf-8").stdout

@@ -1,5 +1,6 @@
 #!/usr/bin/env python3
-"""Tries wrong bodies, and says by which goals the prover refuses each: wrong_bodies.py [CRATE ..] [--anew], from the top of the repository.
+"""Tries wrong bodies, and says by which goals the prover refuses each: wrong_bodies.py [CRATE ..] [--anew] [--jobs N], from the top of the
+repository. A word CRATE/EDIT is one edit of a crate.
 
 An edit of crates/NAME/must-fail/ or crates/NAME/wrong-bodies/ changes what a function means, and has to be refused by a goal of a contract:
 what a function ensures (`returns..`), what a callee requires (`..-requires..`), an invariant (`..-init`, `..-preserved`, `invariant_of..`),
@@ -11,16 +12,21 @@ An edit of crates/NAME/harmless/ meets every clause: it stays proved, or fails b
 What an edit came to is kept in build/wrong-bodies/ by the sums of all that it was tried on, so that a run that was cut off is gone on with;
 --anew tries all. `wrong_bodies.py --read LOG` tries nothing: it judges the lines that `rt ci` wrote of the edits of must-fail/.
 
-The crates below must be proved (`make build`, `make author`). Each result comes as soon as it is there."""
+The crates below must be proved (`make build`, `make author`). Where a crate itself is, and an edit changes the bodies of functions alone, these
+functions are checked: no other proof rests on a body. Else the crate is proved first, and then once more with the edit. Each result comes, and
+is kept, as soon as it is there; --jobs N tries so many edits side by side. The last line counts the edits that are as they must be."""
+import argparse
+import difflib
 import glob
 import hashlib
+import importlib.util
 import os
 import re
 import shutil
 import subprocess
 import sys
 import tempfile
-from concurrent.futures import ThreadPoolExecutor
+from concurrent.futures import ThreadPoolExecutor, as_completed
 
 sys.path.insert(0, os.path.dirname(os.path.abspath(__file__)))
 import build  # noqa: E402
@@ -133,9 +139,47 @@ def copied(folder, to):
     shutil.copytree(folder, to, copy_function=copy, symlinks=True)
 
 
-def checked(room, crate):
-    """Checks a crate in its room; gives whether it is proved, and what was said."""
-    words = [sys.executable, build.RT, "check", "--jobs", "1"]
+def body_of(lines, at):
+    """The path below its module of the function in whose body a line stands, if it stands in one."""
+    for first in range(at, -1, -1):
+        if head := re.match(r"( *)(?:pub(?:\([^)]*\))? )?fn (\w+)", lines[first]):
+            break
+    else:
+        return None
+    indent, name = head.groups()
+    begins = next((i for i in range(first, len(lines)) if lines[i].endswith("{") and re.match(rf"{indent}(?! )(?!ensures|requires)", lines[i])), len(lines))
+    ends = next((i for i in range(begins, len(lines)) if lines[i] == f"{indent}}}"), 0)
+    if not begins < at < ends:
+        return None
+    if not indent:
+        return name
+    owner = next((found for i in range(first, -1, -1) if (found := re.match(r"impl(?:<.*?>)? (?:([\w:]+)(?:<.*?>)? for )?(\w+)", lines[i]))), None)
+    return f"{owner.group(2)}{(owner.group(1) or '').split('::')[-1]}::{name}" if owner else None
+
+
+def bodies(texts, crate):
+    """The paths of the functions whose bodies an edit changes; none where it changes anything else."""
+    found = []
+    for path, text in texts.items():
+        if not path.startswith("src/"):
+            return []
+        with open(f"crates/{crate}/{path}", encoding="utf-8") as file:
+            lines = file.read().split("\n")
+        module = path[len("src/") : -len(".rt")].replace("/", "::")
+        for kind, begins, ends, _, _ in difflib.SequenceMatcher(None, lines, text.split("\n"), False).get_opcodes():
+            for at in range(begins, ends) if kind != "equal" else ():
+                if lines[at].startswith("use "):
+                    continue
+                body = body_of(lines, at)
+                if body is None:
+                    return []
+                found.append(body if module in ("lib", "main") else f"{module}::{body}")
+    return sorted(set(found))
+
+
+def checked(room, crate, only=()):
+    """Checks a crate in its room, or these functions of it; gives whether that is proved, and what was said."""
+    words = [sys.executable, build.RT, "check", "--jobs", "1", *[f"--only={path}" for path in only]]
     ran = subprocess.run(words, cwd=f"{room}/crates/{crate}", stdin=subprocess.DEVNULL, stdout=subprocess.PIPE, stderr=subprocess.STDOUT, errors="replace")
     return ran.returncode == 0, ran.stdout
 
@@ -148,19 +192,24 @@ def change(room, crate, texts):
             out.write(text)
 
 
-def tried(seed, crate, edit):
-    """Tries one edit in a room of its own."""
+def tried(crate, edit, below, seed):
+    """Tries one edit in a room of its own: the functions whose bodies it changes, or without such the crate, over what was proved in the room
+    `seed`."""
     texts, why = edited(edit, f"crates/{crate}")
     if why:
         return Verdict("bad", [why])
+    only = bodies(texts, crate) if seed is None else []
     with tempfile.TemporaryDirectory(prefix="wrong-body-") as place:
         room = f"{place}/room"
-        copied(seed, room)
+        if seed is None:
+            build.furnish(room, crate, below)
+        else:
+            copied(seed, room)
         change(room, crate, texts)
-        proved, output = checked(room, crate)
+        proved, output = checked(room, crate, only)
         if proved:
             return Verdict("proved", [])
-        if re.search(r"\berror\[[\w-]+\]", output) or "logic=" not in output:
+        if re.search(r"\berror\[[\w-]+\]", output) or not re.search(r"^(?:logic|only)=", output, re.M):
             return Verdict("bad", [line for line in output.split("\n") if "error" in line][:1])
         of_specs = any(path.startswith("specs/") for path in texts)
         verdict, misfits = judged(output, of_specs)
@@ -170,7 +219,7 @@ def tried(seed, crate, edit):
         for file, goal, _ in misfits:
             answers[file] = without(answers.get(file) or open(f"{room}/crates/{crate}/{file}", encoding="utf-8").read(), goal)
         change(room, crate, answers)
-        proved, output = checked(room, crate)
+        proved, output = checked(room, crate, only)
         if proved:
             return Verdict("answer", verdict.goals)
         again, _ = judged(output, of_specs)
@@ -211,30 +260,38 @@ def report(crate, edit, verdict):
     return well
 
 
-def try_crate(pool, crate, stands_on, anew):
-    """Tries the edits of a crate, in a room whose crate is proved first; gives whether each is as it must be."""
-    edits = sorted(edit for folder in FOLDERS for edit in glob.glob(f"crates/{crate}/{folder}/*.edit"))
+def edits_of(asked):
+    """The edits of a crate, or the one that is asked for, as CRATE or CRATE/EDIT."""
+    crate, _, name = asked.partition("/")
+    return sorted(edit for folder in FOLDERS for edit in glob.glob(f"crates/{crate}/{folder}/{name or '*'}.edit"))
+
+
+def try_crate(pool, crate, edits, stands_on, proved, anew):
+    """Tries these edits of a crate, `proved` being the crates that are; gives whether each edit is as it must be."""
     below = build.below(crate, stands_on, [])
     sums = {edit: sum_of(crate, below, edit) for edit in edits}
     known = {} if anew else {edit: verdict for edit in edits if (verdict := kept(crate, edit, sums[edit]))}
     results = [report(crate, edit, verdict) for edit, verdict in known.items()]
     left = [edit for edit in edits if edit not in known]
-    if not left:
-        return results
-    lacking = [name for name in below if not os.path.isdir(f"crates/{name}/out/rlib")]
-    if lacking:
-        sys.exit(f"wrong_bodies: {', '.join(lacking)} below {crate} must be proved first: make build, make author")
+    if lacking := [name for name in below if left and name not in proved]:
+        print(f"FAULT {crate}: {', '.join(lacking)} below it must be proved first: make build, make author", flush=True)
+        return [*results, *[False for _ in left]]
+    whole = [edit for edit in left if crate not in proved or not bodies(edited(edit, f"crates/{crate}")[0] or {}, crate)]
     with tempfile.TemporaryDirectory(prefix="wrong-bodies-") as place:
-        room = f"{place}/room"
-        build.furnish(room, crate, below)
-        proved, output = checked(room, crate)
-        if not proved:
-            print(f"FAULT {crate}: it isn't proved as it stands", *output.split("\n")[-12:], sep="\n  ", flush=True)
-            return [*results, False]
-        begun = {edit: pool.submit(tried, room, crate, edit) for edit in left}
-        for edit, one in begun.items():
-            verdict = one.result()
-            keep(crate, edit, sums[edit], verdict)
+        begun = {pool.submit(tried, crate, edit, below, None): edit for edit in left if edit not in whole}
+        seed = f"{place}/room"
+        if whole:
+            build.furnish(seed, crate, below)
+            is_proved, output = checked(seed, crate)
+            if is_proved:
+                begun.update({pool.submit(tried, crate, edit, below, seed): edit for edit in whole})
+            else:
+                print(f"FAULT {crate}: it isn't proved as it stands", *output.split("\n")[-12:], sep="\n  ", flush=True)
+                results += [False for _ in whole]
+        for one in as_completed(begun):
+            edit, verdict = begun[one], one.result()
+            if verdict.kind != "bad":
+                keep(crate, edit, sums[edit], verdict)
             results.append(report(crate, edit, verdict))
     return results
 
@@ -258,8 +315,16 @@ def read(log):
     return summed(results) or len(results) != wanted
 
 
+def proved_crates():
+    """The crates whose libraries are proved from their sources as they stand."""
+    spec = importlib.util.spec_from_file_location("rt_once", build.RT)
+    rt = importlib.util.module_from_spec(spec)
+    spec.loader.exec_module(rt)
+    return {crate.name for crate in rt.command(True).rtlib.crates_below(os.getcwd()) if crate.is_built()}
+
+
 def summed(results):
-    print(f"wrong_bodies: {sum(results)} of {len(results)} edits are as they must be")
+    print(f"wrong_bodies: {sum(results)} of {len(results)} edits are as they must be", flush=True)
     return 0 if results and all(results) else 1
 
 
@@ -271,16 +336,28 @@ def lanes():
 def main(words):
     if words[:1] == ["--read"]:
         return read(words[1])
-    anew, named = "--anew" in words, [word for word in words if word != "--anew"]
+    asked = argparse.ArgumentParser(prog="wrong_bodies")
+    asked.add_argument("crates", nargs="*")
+    asked.add_argument("--anew", action="store_true")
+    asked.add_argument("--jobs", type=int)
+    asked = asked.parse_args(words)
     stands_on = build.crates()
-    have = [crate for crate in stands_on if any(glob.glob(f"crates/{crate}/{folder}/*.edit") for folder in FOLDERS)]
-    if strange := [crate for crate in named if crate not in have]:
+    have = [crate for crate in stands_on if edits_of(crate)]
+    if strange := [word for word in asked.crates if not edits_of(word)]:
         print(f"wrong_bodies: no wrong bodies in {', '.join(strange)}", file=sys.stderr)
         return 2
-    results = []
-    with ThreadPoolExecutor(lanes()) as pool:
-        for crate in named or have:
-            results += try_crate(pool, crate, stands_on, anew)
+    wanted = {}
+    for word in asked.crates or have:
+        wanted.setdefault(word.partition("/")[0], set()).update(edits_of(word))
+    results, proved = [], proved_crates()
+    with ThreadPoolExecutor(asked.jobs or lanes()) as pool:
+        try:
+            for crate, edits in wanted.items():
+                results += try_crate(pool, crate, sorted(edits), stands_on, proved, asked.anew)
+        except KeyboardInterrupt:
+            pool.shutdown(wait=False, cancel_futures=True)
+            print("wrong_bodies: cut off; the same command goes on from what is kept", file=sys.stderr)
+            return 130
     return summed(results)
 
 

@@ -1,12 +1,17 @@
 #!/usr/bin/env python3
-"""Runs the parts of a folder that split_table.py made on a Dask cluster, one future a part:
+"""Runs the parts of a folder that split_table.py made on a Dask cluster, one
+future a part:
 
-    dask_payroll.py --scheduler ADDRESS FOLDER [QUESTION ..] [--send] [--program PAPCALC] [--retries N]
+    dask_payroll.py --scheduler ADDRESS FOLDER [QUESTION ..] [--send]
+                    [--program PAPCALC] [--retries N]
 
-The question is a line of a script, `report` where none is said, or `file MONTH`. The workers see FOLDER under the same name and put each
-result there, by a rename once it is whole. With --send they share no files: tables and flowcharts go to them by the scheduler, and the
-results come back. PAPCALC is the program's name on the workers. A refused part isn't tried again; any other fault is, N times (3 where
-nothing is said), and Dask does again what was lost with a worker."""
+The question is a line of a script, `report` where none is said, or
+`file MONTH`. The workers see FOLDER under the same name and put each result
+there, by a rename once it is whole. With --send they share no files: tables
+and flowcharts go to them by the scheduler, and the results come back. PAPCALC
+is the program's name on the workers. A refused part isn't tried again; any
+other fault is, N times (3 where nothing is said), and Dask does again what was
+lost with a worker. The status is 0 where each part has a result, else 1."""
 import argparse
 import asyncio
 import itertools
@@ -15,7 +20,9 @@ import sys
 
 sys.path.insert(0, os.path.join(os.path.dirname(os.path.abspath(__file__)), os.pardir))
 import parts  # noqa: E402
+import tool_end  # noqa: E402
 
+UNWRITTEN = 5
 WIDTH = 40
 WAIT_SECONDS = 60
 
@@ -105,10 +112,9 @@ def put_result(path, text):
 class Payroll:
     """The parts of a folder on their way: as many futures at a time as keep the workers busy, since a sent table waits in the scheduler."""
 
-    def __init__(self, client, words):
-        self.client, self.words = client, words
+    def __init__(self, client, words, manifests):
+        self.client, self.words, self.manifests = client, words, manifests
         self.folder, self.question = os.path.abspath(words.folder), " ".join(words.question) or "report"
-        self.manifests = parts.read_manifests(self.folder)
         self.by_future, self.faults = {}, []
 
     def result(self, manifest):
@@ -155,26 +161,48 @@ def show(done, count, faults):
     print(f"\r[{bar:{WIDTH}}] {done} of {count} parts, {faults} without a result", end="", file=sys.stderr, flush=True)
 
 
-def main():
-    reader = argparse.ArgumentParser(description=__doc__, formatter_class=argparse.RawDescriptionHelpFormatter)
+def words_of(arguments):
+    reader = argparse.ArgumentParser(prog="dask_payroll.py", description=__doc__, formatter_class=argparse.RawDescriptionHelpFormatter)
     reader.add_argument("--scheduler", required=True, metavar="ADDRESS")
     reader.add_argument("--send", action="store_true")
-    reader.add_argument("--program", default="papcalc")
-    reader.add_argument("--retries", type=int, default=3)
-    reader.add_argument("folder")
-    reader.add_argument("question", nargs="*")
-    words = reader.parse_args()
-    from distributed import Client, as_completed
+    reader.add_argument("--program", metavar="PAPCALC", default="papcalc")
+    reader.add_argument("--retries", metavar="N", type=int, default=3)
+    reader.add_argument("folder", metavar="FOLDER")
+    reader.add_argument("question", metavar="QUESTION", nargs="*")
+    return reader.parse_args(arguments)
+
+
+def connected(client, address):
+    """A client of the scheduler at an address, or the end where there is none; what is raised then depends on the kind of address."""
     try:
-        with Client(words.scheduler) as client:
-            payroll = Payroll(client, words)
+        return client(address)
+    except Exception as fault:
+        sys.exit(f"dask_payroll: {address}: {fault}")
+
+
+def main(arguments):
+    words = words_of(arguments)
+    try:
+        from distributed import Client, as_completed
+    except ImportError as fault:
+        sys.exit(f"dask_payroll: {fault} in {sys.executable}: Debian's python3-distributed is for /usr/bin/python3")
+    try:
+        manifests = parts.read_manifests(words.folder)
+        with connected(Client, words.scheduler) as client:
+            payroll = Payroll(client, words, manifests)
             client.wait_for_workers(1, timeout=WAIT_SECONDS)
             payroll.run(as_completed)
-    except (parts.PartsFault, OSError, asyncio.TimeoutError) as fault:
-        sys.exit(f"dask_payroll: {fault}")
+    except parts.PartsFault as fault:
+        sys.exit("\n".join(f"dask_payroll: {line}" for line in str(fault).splitlines()))
+    except BrokenPipeError:
+        raise
+    except asyncio.TimeoutError:
+        sys.exit(f"dask_payroll: {words.scheduler} has no worker within {WAIT_SECONDS} s")
+    except OSError as fault:
+        sys.exit(f"dask_payroll: {fault.filename2 or fault.filename or words.scheduler}: {fault.strerror or fault}")
     if payroll.faults:
         sys.exit("\n".join(f"dask_payroll: {fault}" for fault in sorted(payroll.faults)))
 
 
 if __name__ == "__main__":
-    main()
+    tool_end.run_tool("dask_payroll", lambda: main(sys.argv[1:]), UNWRITTEN)

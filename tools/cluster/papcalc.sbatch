@@ -11,6 +11,13 @@
 # RETRIES times (3 where nothing is said); one whose node fails is put back by Slurm. Without Slurm, tools/run_part.sh runs it.
 set -uo pipefail
 export LC_ALL=C
+usage='usage: sbatch --array=1-PARTS papcalc.sbatch FOLDER [QUESTION ..]
+Runs one part of a folder that split_table.py made, and puts its result there.
+QUESTION is a line of a script: report where none is said, or file MONTH.
+PAPCALC in the environment names the program, else it is papcalc; RETRIES says
+how often a task is tried again (3).'
+case ${1:-} in -h | --help) echo "$usage"; exit ;; esac
+if [ $# -eq 0 ] || [ -z "${SLURM_ARRAY_TASK_ID:-}" ]; then echo "$usage" >&2; exit 2; fi
 folder=$1 question=${*:2}
 question=${question:-report}
 part=$(printf 'part-%04d' "$SLURM_ARRAY_TASK_ID")
@@ -19,7 +26,7 @@ papcalc=${PAPCALC:-papcalc}
 attempt=${SLURM_RESTART_COUNT:-0}
 
 end_with() {
-    echo "papcalc: $part: $2" >&2
+    echo "papcalc: $part: $2; nothing is put at $folder/$result" >&2
     rm -f "${made:-}"
     if [ "$1" -ne 1 ] && [ -n "${SLURM_JOB_ID:-}" ] && [ "$attempt" -lt "${RETRIES:-3}" ]; then
         scontrol requeue "${SLURM_ARRAY_JOB_ID}_$SLURM_ARRAY_TASK_ID" && sleep 60
@@ -42,8 +49,8 @@ script() {
     cat plans.script && printf '\nload %s.csv\n' "$part" && { [ -z "$edits" ] || cat "$edits"; } && printf '\n%s\n' "$question"
 }
 
-receipt | sed 's/^/# /' > "$made" || end_with 3 "the part, its flowcharts or the program $papcalc can't be read"
+receipt | sed 's/^/# /' > "$made" || end_with 3 "a file of the part or the program $papcalc can't be read, or the disk is full"
 script | "$papcalc" run >> "$made"
 status=$?
-[ "$status" -eq 0 ] || end_with "$status" "status $status; nothing is put at $folder/$result"
-{ sync "$made" && mv -f "$made" "$result"; } || end_with 5 "the result can't be put at $folder/$result"
+[ "$status" -eq 0 ] || end_with "$status" "status $status"
+{ sync "$made" && mv -f "$made" "$result"; } || end_with 5 "the result can't be brought to the disk"

@@ -1,0 +1,68 @@
+#!/usr/bin/env python3
+"""One word, one thing: check_names.py, from the top of the repository.
+
+No name of a definition of specs/ stands in a second file there, but for those of MAY, where both mean the same of another thing, and those
+of TWO_THINGS, which has what still is one name for two things: it may only grow shorter. The constructors of a `data` and the fields of a
+record are read with their type and aren't asked; nor are specs/private/ and specs/laws/, which no public contract reaches."""
+import glob
+import re
+import sys
+from collections import defaultdict
+
+DEFINED = re.compile(r"^\s*(?:unfoldable )?(?:abbrev pub|pub record|pub data) (\S+)", re.M)
+
+# Why a name may stand in several files.
+MAY = {
+    "two programs make the same promises of their own words and objects":
+        "Carries HasForm HaveOneForm Headline IsBad Leaves Outside outside_of texts",
+    "how a program ends, or what it says of a refusal, each in its own way":
+        "IsAnswered refused_text stop_of stop_of_file",
+    "the same is said of another text":
+        "Earns HasOneAnswer IsAccepted IsFaultOrMemory IsFirstFault IsReadable IsToken Token fault_text place_text",
+    "of the bytes of a text, and of its tokens":
+        "begins_number begins_point sign_text signed",
+    "of the elements that are read, and of the tree":
+        "declared_as kind_of methods_nesting methods_written",
+    "of decimals, and of intervals":
+        "greater_scale",
+    "of one year, and of all":
+        "edit_cost replan_cost",
+    "of the slots of inputs, and of their flowchart":
+        "ReadsNothing",
+    "of code, and that there is code":
+        "body_code",
+}
+
+# One name for two things.
+TWO_THINGS = """
+Answer Answers Branches Calls Does Entry Fits Form Front HasCause HasOrder IsAtMost IsKept IsUnread IsValue IsWhole IsWide Item Job
+Meaning Names One Plain Says State TableSays Text Two after before begins_with compared entry_of fits given greatest is_blank is_kind
+is_shown items_of joined kept least level_of lines_of marked most most_places name_at number_of output_of outputs_in outside picked_entry
+put refusal shortened shown shown_char site spaced spelled start state_of takes text_of value_of with_inputs without words_of
+""".split()
+
+
+def names():
+    """Each name of a definition of specs/, with the files in which it stands."""
+    found = defaultdict(set)
+    for path in sorted(glob.glob("crates/*/specs/**/*.antt", recursive=True)):
+        if not re.search("/specs/(?:private|laws)/", path):
+            for name in DEFINED.findall(open(path, encoding="utf-8").read()):
+                found[name].add(path)
+    return found
+
+
+def main():
+    found = names()
+    listed = sum((line.split() for line in MAY.values()), []) + TWO_THINGS
+    faults = [f"{name} is listed twice" for name in sorted({name for name in listed if listed.count(name) > 1})]
+    faults += [f"{name} stands in {' and '.join(sorted(found[name]))}" for name in sorted(found) if len(found[name]) > 1 and name not in listed]
+    faults += [f"{name} stands in one file alone: take it off the list" for name in sorted(set(listed)) if len(found[name]) < 2]
+    for fault in faults:
+        print(f"check_names: {fault}")
+    print(f"check_names: {len(found)} names, {len(listed)} of them in several files ({len(TWO_THINGS)} for two things), {len(faults)} faults")
+    return 1 if faults or not found else 0
+
+
+if __name__ == "__main__":
+    sys.exit(main())
