@@ -10,11 +10,15 @@ Where an answer has another type than its goal, the edit is tried once more with
 An edit of crates/NAME/harmless/ meets every clause: it stays proved, or fails by names alone.
 
 What an edit came to is kept in build/wrong-bodies/ by the sums of all that it was tried on, so that a run that was cut off is gone on with;
---anew tries all. `wrong_bodies.py --read LOG` tries nothing: it judges the lines that `rt ci` wrote of the edits of must-fail/.
+--anew tries all. `wrong_bodies.py --read LOG` tries nothing: it judges the lines that `rt ci` wrote of the edits of must-fail/, and looks at
+where the edits of all folders stand, as `wrong_bodies.py --places` does alone: each `old:` text has to stand once in its file, a crate has
+at most eight edits that are to be refused, and beside them a harmless one.
 
 The crates below must be proved (`make build`, `make author`). Where a crate itself is, and an edit changes the bodies of functions alone, these
-functions are checked: no other proof rests on a body. Else the crate is proved first, and then once more with the edit. Each result comes, and
-is kept, as soon as it is there; --jobs N tries so many edits side by side. The last line counts the edits that are as they must be."""
+functions are checked: no other proof rests on a body. So one check tries edits of different functions together; an edit of which it doesn't
+say enough is tried by itself. For an edit of a constant the functions that name it are checked. Else, and where these aren't refused, the
+crate is proved first, and then once more with the edit. Each result comes, and is kept, as soon as it is there; --jobs N makes so many checks
+side by side. The last line counts the edits that are as they must be."""
 import argparse
 import difflib
 import glob
@@ -26,7 +30,8 @@ import shutil
 import subprocess
 import sys
 import tempfile
-from concurrent.futures import ThreadPoolExecutor, as_completed
+import time
+from concurrent.futures import FIRST_COMPLETED, ThreadPoolExecutor, wait
 
 sys.path.insert(0, os.path.dirname(os.path.abspath(__file__)))
 import build  # noqa: E402
@@ -34,6 +39,7 @@ import build  # noqa: E402
 FOLDERS = ("must-fail", "wrong-bodies", "harmless")
 KEPT = "build/wrong-bodies"
 GIGABYTES_A_LANE = 3
+MOST_REFUSED = 8
 
 CONTRACT = re.compile(r"(?:.*-)?returns\b|.*-requires\b|.*-(?:init|preserved|smaller)\b|invariant_of-|(?:overflow|bounds|slice_bounds|nonzero|offset_bounds)_?\w*-")
 GONE = re.compile(r"has no field|is not in scope|has no `|was not admitted|was rejected|is no name|no longer has a goal|there is no goal|names no goal")
@@ -42,6 +48,7 @@ ANSWER = re.compile(r"(?:\./)?(proofs/\S+?\.antt):(\d+):\d+: error: (?:`([^`]+)`
 NOTE = re.compile(r"note: (src/\S+?):(\d+):\d+: .*\(`([^`]+)`\)")
 UNPROVED = re.compile(r"note: src/\S+: it is not proved that")
 FUNCTION = re.compile(r"fn (\S+): no proof")
+PROVED = re.compile(r"^fn (\S+): proved$", re.M)
 BY_MACHINE = re.compile(r"^`(?:grind|search|omega|simp|cc|arith)`|does not follow|did not prove|is not proved")
 
 
@@ -67,9 +74,9 @@ class Verdict:
         return said + (": " + "; ".join(self.goals[:4]) + (f"; and {len(self.goals) - 4} more" if len(self.goals) > 4 else "") if self.goals else "")
 
 
-def edited(edit, folder):
-    """The texts of the files that an edit changes, by their path in the crate, or why it can't be applied."""
-    texts, path, old = {}, None, None
+def edited(edit, folder, before=()):
+    """The texts of the files that an edit changes, by their path in the crate, or why it can't be applied; other edits left those `before`."""
+    texts, path, old = dict(before), None, None
     for line in open(edit, encoding="utf-8").read().split("\n"):
         if line.startswith("file: "):
             path = line[6:].strip()
@@ -100,10 +107,10 @@ def told(output):
     return found
 
 
-def judged(output, of_specs):
-    """What a failed check comes to, and the answers by hand that don't fit, by their files."""
+def judged(failures, of_specs):
+    """What failures of a check come to, and the answers by hand that don't fit, by their files."""
     contract, laws, names, misfits = [], [], [], []
-    for goal, said, file, where in told(output):
+    for goal, said, file, where in failures:
         place = f"{file[len('proofs/'):]} `{goal}`" if file else f"{where} `{goal}`"
         is_answer = file is None or os.path.basename(file) in ("Answers.antt", "Invariants.antt", "Proof.antt")
         if GONE.search(said):
@@ -177,9 +184,60 @@ def bodies(texts, crate):
     return sorted(set(found))
 
 
+def users(texts, crate):
+    """The paths of the functions whose bodies name a constant that an edit changes; none where it changes anything but constants."""
+    names = set()
+    for path, text in texts.items():
+        with open(f"crates/{crate}/{path}", encoding="utf-8") as file:
+            lines = file.read().split("\n")
+        for old, new in zip(lines, text.split("\n")):
+            found = re.match(r"(?:pub(?:\([^)]*\))? )?const (\w+):", old)
+            if old != new and not (found and path.startswith("src/")):
+                return []
+            if old != new:
+                names.add(found.group(1))
+    paths = set()
+    for path in glob.glob(f"crates/{crate}/src/**/*.rt", recursive=True) if names else ():
+        with open(path, encoding="utf-8") as file:
+            lines = file.read().split("\n")
+        module = path[len(f"crates/{crate}/src/") : -len(".rt")].replace("/", "::")
+        for at, line in enumerate(lines):
+            if names.intersection(re.findall(r"\w+", line.split("//")[0])) and (body := body_of(lines, at)):
+                paths.add(body if module in ("lib", "main") else f"{module}::{body}")
+    return sorted(paths)
+
+
+def unit(path, crate):
+    """What a function is checked as: by itself, or as one of those of its module or type that call each other."""
+    over = path.rpartition("::")[0]
+    return f"{over}::+" if glob.glob(f"crates/{crate}/proofs/{over.replace('::', '/')}/+*") else path
+
+
+def unit_of(failure, crate):
+    """What was being checked where a check failed."""
+    _, _, file, where = failure
+    path = "::".join(file.split("/")[1:-1]) if file else where.removeprefix(f"{crate}::")
+    return path[: path.index("+") + 1] if "+" in path else unit(path, crate)
+
+
+def apart(edits, crate):
+    """Groups of edits of which no two change the same function."""
+    groups = []
+    for edit in edits:
+        units = {unit(path, crate) for path in bodies(edited(edit, f"crates/{crate}")[0] or {}, crate)}
+        for group, taken in groups:
+            if units and not units & taken:
+                group.append(edit)
+                taken |= units
+                break
+        else:
+            groups.append(([edit], units))
+    return [group for group, _ in groups]
+
+
 def checked(room, crate, only=()):
     """Checks a crate in its room, or these functions of it; gives whether that is proved, and what was said."""
-    words = [sys.executable, build.RT, "check", "--jobs", "1", *[f"--only={path}" for path in only]]
+    words = [sys.executable, build.RT, "check", "--jobs", "2" if only[1:] else "1", *[f"--only={path}" for path in only]]
     ran = subprocess.run(words, cwd=f"{room}/crates/{crate}", stdin=subprocess.DEVNULL, stdout=subprocess.PIPE, stderr=subprocess.STDOUT, errors="replace")
     return ran.returncode == 0, ran.stdout
 
@@ -198,7 +256,7 @@ def tried(crate, edit, below, seed):
     texts, why = edited(edit, f"crates/{crate}")
     if why:
         return Verdict("bad", [why])
-    only = bodies(texts, crate) if seed is None else []
+    only = bodies(texts, crate) or users(texts, crate) if seed is None else []
     with tempfile.TemporaryDirectory(prefix="wrong-body-") as place:
         room = f"{place}/room"
         if seed is None:
@@ -212,7 +270,7 @@ def tried(crate, edit, below, seed):
         if re.search(r"\berror\[[\w-]+\]", output) or not re.search(r"^(?:logic|only)=", output, re.M):
             return Verdict("bad", [line for line in output.split("\n") if "error" in line][:1])
         of_specs = any(path.startswith("specs/") for path in texts)
-        verdict, misfits = judged(output, of_specs)
+        verdict, misfits = judged(told(output), of_specs)
         if not misfits:
             return verdict
         answers = {}
@@ -222,7 +280,7 @@ def tried(crate, edit, below, seed):
         proved, output = checked(room, crate, only)
         if proved:
             return Verdict("answer", verdict.goals)
-        again, _ = judged(output, of_specs)
+        again, _ = judged(told(output), of_specs)
         return again if again.kind in ("contract", "law") else verdict
 
 
@@ -252,11 +310,54 @@ def keep(crate, edit, total, verdict):
         out.write("\n".join([total, verdict.kind, *verdict.goals]) + "\n")
 
 
-def report(crate, edit, verdict):
+def judged_apart(crate, paths, output):
+    """What edits came to that one check tried together, of those of which it says so: their functions are proved, or their own goals of a
+    contract refuse them. `paths` are the functions that each changes."""
+    failures, verdicts = told(output), {}
+    proved = {path.removeprefix(f"{crate}::") for path in PROVED.findall(output)}
+    for edit, changed in paths.items():
+        units = {unit(path, crate) for path in changed}
+        own = [failure for failure in failures if unit_of(failure, crate) in units]
+        verdict, _ = judged(own, False)
+        if verdict.kind == "contract":
+            verdicts[edit] = verdict
+        elif not own and proved.issuperset(changed):
+            verdicts[edit] = Verdict("proved", [])
+    return verdicts
+
+
+def tried_together(crate, edits, below):
+    """Tries edits of different functions in one room and by one check; gives what those came to of which that is told."""
+    texts, paths = {}, {}
+    for edit in edits:
+        paths[edit] = bodies(edited(edit, f"crates/{crate}")[0], crate)
+        texts, why = edited(edit, f"crates/{crate}", texts)
+        if why:
+            return {}
+    with tempfile.TemporaryDirectory(prefix="wrong-body-") as place:
+        room = f"{place}/room"
+        build.furnish(room, crate, below)
+        change(room, crate, texts)
+        proved, output = checked(room, crate, sorted(set().union(*paths.values())))
+    if proved:
+        return {edit: Verdict("proved", []) for edit in edits}
+    if re.search(r"\berror\[[\w-]+\]", output) or not re.search(r"^only=", output, re.M):
+        return {}
+    return judged_apart(crate, paths, output)
+
+
+def timed(crate, edits, below, seed):
+    """Tries edits: several together, or one; gives each with what it came to, if that is told, and the seconds that it took."""
+    began = time.time()
+    found = tried_together(crate, edits, below) if edits[1:] else {edits[0]: tried(crate, edits[0], below, seed)}
+    return [(edit, found.get(edit), (time.time() - began) / len(edits)) for edit in edits]
+
+
+def report(crate, edit, verdict, took="kept"):
     """Says what an edit came to; gives whether that is as it must be."""
     folder = os.path.basename(os.path.dirname(edit))
     well = verdict.counts(folder == "harmless")
-    print(f"{'ok   ' if well else 'FAULT'} {crate}/{folder}/{os.path.basename(edit)[:-5]}: {verdict.text()}", flush=True)
+    print(f"{'ok   ' if well else 'FAULT'} {crate}/{folder}/{os.path.basename(edit)[:-5]} ({took}): {verdict.text()}", flush=True)
     return well
 
 
@@ -276,24 +377,53 @@ def try_crate(pool, crate, edits, stands_on, proved, anew):
     if lacking := [name for name in below if left and name not in proved]:
         print(f"FAULT {crate}: {', '.join(lacking)} below it must be proved first: make build, make author", flush=True)
         return [*results, *[False for _ in left]]
-    whole = [edit for edit in left if crate not in proved or not bodies(edited(edit, f"crates/{crate}")[0] or {}, crate)]
+    changed = {edit: edited(edit, f"crates/{crate}")[0] or {} for edit in left}
+    single = [edit for edit in left if crate in proved and bodies(changed[edit], crate)]
+    constant = [edit for edit in left if crate in proved and edit not in single and users(changed[edit], crate)]
     with tempfile.TemporaryDirectory(prefix="wrong-bodies-") as place:
-        begun = {pool.submit(tried, crate, edit, below, None): edit for edit in left if edit not in whole}
+        begun = {pool.submit(timed, crate, group, below, None): None for group in [*apart(single, crate), *[[edit] for edit in constant]]}
+        whole = [edit for edit in left if edit not in single and edit not in constant]
         seed = f"{place}/room"
-        if whole:
-            build.furnish(seed, crate, below)
-            is_proved, output = checked(seed, crate)
-            if is_proved:
-                begun.update({pool.submit(tried, crate, edit, below, seed): edit for edit in whole})
-            else:
-                print(f"FAULT {crate}: it isn't proved as it stands", *output.split("\n")[-12:], sep="\n  ", flush=True)
-                results += [False for _ in whole]
-        for one in as_completed(begun):
-            edit, verdict = begun[one], one.result()
-            if verdict.kind != "bad":
-                keep(crate, edit, sums[edit], verdict)
-            results.append(report(crate, edit, verdict))
+        while begun or whole:
+            if not begun:
+                if not os.path.isdir(seed):
+                    build.furnish(seed, crate, below)
+                    is_proved, output = checked(seed, crate)
+                    if not is_proved:
+                        print(f"FAULT {crate}: it isn't proved as it stands", *output.split("\n")[-12:], sep="\n  ", flush=True)
+                        return results + [False for _ in whole]
+                begun.update({pool.submit(timed, crate, [edit], below, seed): seed for edit in whole})
+                whole = []
+            for one in wait(begun, return_when=FIRST_COMPLETED).done:
+                by = begun.pop(one)
+                for edit, verdict, seconds in one.result():
+                    if verdict is None:
+                        begun[pool.submit(timed, crate, [edit], below, None)] = None
+                    elif by is None and edit in constant and verdict.kind != "contract":
+                        whole.append(edit)
+                    else:
+                        if verdict.kind != "bad":
+                            keep(crate, edit, sums[edit], verdict)
+                        results.append(report(crate, edit, verdict, f"{seconds:.0f} s"))
     return results
+
+
+def places():
+    """Looks at where the edits of all crates stand, and tries none; gives how many there are and whether all is as it must be."""
+    faults, count = [], 0
+    for folder in sorted(glob.glob("crates/*")):
+        crate = os.path.basename(folder)
+        edits = edits_of(crate)
+        count += len(edits)
+        faults += [f"{edit[len('crates/'):-5]}: {why}" for edit in edits if (why := edited(edit, folder)[1])]
+        harmless = sum("/harmless/" in edit for edit in edits)
+        if len(edits) - harmless > MOST_REFUSED:
+            faults.append(f"{crate}: {len(edits) - harmless} edits are to be refused, and a crate has at most {MOST_REFUSED}")
+        if edits and not harmless:
+            faults.append(f"{crate}: it has no harmless edit")
+    for fault in faults:
+        print(f"FAULT {fault}")
+    return count, not faults
 
 
 def read(log):
@@ -312,7 +442,8 @@ def read(log):
     wanted = len(glob.glob("crates/*/must-fail/*.edit"))
     if len(results) != wanted:
         print(f"FAULT {wanted} edits stand in must-fail/, and the log has {len(results)}")
-    return summed(results) or len(results) != wanted
+    well = places()[1]
+    return summed(results) or len(results) != wanted or not well
 
 
 def proved_crates():
@@ -336,6 +467,10 @@ def lanes():
 def main(words):
     if words[:1] == ["--read"]:
         return read(words[1])
+    if words == ["--places"]:
+        count, well = places()
+        print(f"wrong_bodies: {count} edits were looked at")
+        return 0 if well else 1
     asked = argparse.ArgumentParser(prog="wrong_bodies")
     asked.add_argument("crates", nargs="*")
     asked.add_argument("--anew", action="store_true")
