@@ -267,16 +267,13 @@ def tried(crate, edit, below, seed):
         proved, output = checked(room, crate, only)
         if proved:
             return Verdict("proved", [])
-        if re.search(r"\berror\[[\w-]+\]", output) or not re.search(r"^(?:logic|only)=", output, re.M):
+        if not is_readable(output):
             return Verdict("bad", [line for line in output.split("\n") if "error" in line][:1])
         of_specs = any(path.startswith("specs/") for path in texts)
         verdict, misfits = judged(told(output), of_specs)
         if not misfits:
             return verdict
-        answers = {}
-        for file, goal, _ in misfits:
-            answers[file] = without(answers.get(file) or open(f"{room}/crates/{crate}/{file}", encoding="utf-8").read(), goal)
-        change(room, crate, answers)
+        without_answers(room, crate, misfits)
         proved, output = checked(room, crate, only)
         if proved:
             return Verdict("answer", verdict.goals)
@@ -311,23 +308,36 @@ def keep(crate, edit, total, verdict):
 
 
 def judged_apart(crate, paths, output):
-    """What edits came to that one check tried together, of those of which it says so: their functions are proved, or their own goals of a
-    contract refuse them. `paths` are the functions that each changes."""
-    failures, verdicts = told(output), {}
+    """What edits came to that one check tried together, of those of which it says so, each with its answers by hand that don't fit; `paths`
+    are the functions that each changes."""
+    failures, told_of = told(output), {}
     proved = {path.removeprefix(f"{crate}::") for path in PROVED.findall(output)}
     for edit, changed in paths.items():
         units = {unit(path, crate) for path in changed}
         own = [failure for failure in failures if unit_of(failure, crate) in units]
-        verdict, _ = judged(own, False)
-        if verdict.kind == "contract":
-            verdicts[edit] = verdict
-        elif not own and proved.issuperset(changed):
-            verdicts[edit] = Verdict("proved", [])
-    return verdicts
+        if own:
+            told_of[edit] = judged(own, False)
+        elif proved.issuperset(changed):
+            told_of[edit] = Verdict("proved", []), []
+    return told_of
+
+
+def without_answers(room, crate, misfits):
+    """Takes answers that don't fit out of a room."""
+    answers = {}
+    for file, goal, _ in misfits:
+        answers[file] = without(answers.get(file) or open(f"{room}/crates/{crate}/{file}", encoding="utf-8").read(), goal)
+    change(room, crate, answers)
+
+
+def is_readable(output):
+    """Whether a check came as far as the proofs."""
+    return not re.search(r"\berror\[[\w-]+\]", output) and bool(re.search(r"^(?:logic|only)=", output, re.M))
 
 
 def tried_together(crate, edits, below):
-    """Tries edits of different functions in one room and by one check; gives what those came to of which that is told."""
+    """Tries edits of different functions in one room and by one check, and by one more without the answers that don't fit; gives what those
+    came to of which that is told."""
     texts, paths = {}, {}
     for edit in edits:
         paths[edit] = bodies(edited(edit, f"crates/{crate}")[0], crate)
@@ -339,11 +349,18 @@ def tried_together(crate, edits, below):
         build.furnish(room, crate, below)
         change(room, crate, texts)
         proved, output = checked(room, crate, sorted(set().union(*paths.values())))
-    if proved:
-        return {edit: Verdict("proved", []) for edit in edits}
-    if re.search(r"\berror\[[\w-]+\]", output) or not re.search(r"^only=", output, re.M):
-        return {}
-    return judged_apart(crate, paths, output)
+        if proved:
+            return {edit: Verdict("proved", []) for edit in edits}
+        if not is_readable(output):
+            return {}
+        told_of = judged_apart(crate, paths, output)
+        left = {edit: paths[edit] for edit, (_, misfits) in told_of.items() if misfits}
+        if left:
+            without_answers(room, crate, [misfit for edit in left for misfit in told_of[edit][1]])
+            _, output = checked(room, crate, sorted(set().union(*left.values())))
+            again = judged_apart(crate, left, output) if is_readable(output) else {}
+            told_of.update({edit: found for edit, found in again.items() if found[0].kind == "contract"})
+    return {edit: verdict for edit, (verdict, _) in told_of.items()}
 
 
 def timed(crate, edits, below, seed):
