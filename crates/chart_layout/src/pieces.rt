@@ -1,9 +1,11 @@
 //! An expression's text in pieces: its tokens, with the spaces between them and the places where a line may break.
 use expr_tokens::{Keyword, Placed, Sign, Token, read_tokens};
+use pap_tree::levels::{self, level_of_operator};
 use pap_tree::{Binary, is_white};
 use std::alloc::{AllocError, Global};
 
-/// How ill a break would be: the open brackets, then how tight its operator is.
+/// How ill a break would be: the open brackets, then how tight its operator is, which is one more than its level in the grammar
+/// (`pap_tree::levels`): 0 is a comma.
 #[derive(Clone, Copy, PartialEq, PartialOrd)]
 pub struct Weight {
     pub brackets: usize,
@@ -11,7 +13,10 @@ pub struct Weight {
 }
 
 /// The tightness of a break before a call's point.
-pub(crate) const CALL: u8 = 7;
+pub(crate) const CALL: u8 = levels::CALL + 1;
+
+/// The tightness of a break behind the sign of an assignment: above all others.
+const ASSIGNMENT: u8 = levels::PRIMARY + 1;
 
 /// A token of a text.
 #[derive(Clone, Copy)]
@@ -162,30 +167,15 @@ fn tightness(token: &Token, before: Before, role: Before) -> Option<u8> {
     match before {
         Before::Nothing => return None,
         Before::Comma => return Some(0),
-        Before::Equals => return Some(9),
+        Before::Equals => return Some(ASSIGNMENT),
         _ => {}
     }
     match token {
         Token::Operator(_) if role == Before::Sign => None,
-        Token::Operator(operator) => Some(operator_tightness(*operator)),
-        Token::Mark(Sign::Question | Sign::Colon) => Some(1),
+        Token::Operator(operator) => Some(level_of_operator(*operator).saturating_add(1)),
+        Token::Mark(Sign::Question | Sign::Colon) => Some(levels::CONDITIONAL + 1),
         Token::Mark(Sign::Dot) if before != Before::Class => Some(CALL),
         _ => None,
-    }
-}
-
-fn operator_tightness(operator: Binary) -> u8 {
-    match operator {
-        Binary::Or => 2,
-        Binary::And => 3,
-        Binary::Same
-        | Binary::Differs
-        | Binary::Less
-        | Binary::LessEq
-        | Binary::More
-        | Binary::MoreEq => 4,
-        Binary::Plus | Binary::Sub => 5,
-        Binary::Mul | Binary::Div | Binary::Rem => 6,
     }
 }
 
