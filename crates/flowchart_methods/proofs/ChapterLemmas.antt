@@ -18,6 +18,7 @@ use Rattle.chart_layout.specs.Counts.{count_of}
 use Rattle.flowchart_methods.specs.declared.chapter.Chapter.{Chapter}
 use Rattle.flowchart_methods.specs.Turns.{AddsInTurn}
 use Rattle.flowchart_methods.specs.Sites.{NamedStatement, number_in}
+use Rattle.flowchart_methods.specs.Conditions.{conditions_of}
 use Rattle.flowchart_methods.specs.Captions.{heading, statement_captions, method_captions, AreCaptions}
 use Rattle.flowchart_methods.specs.Chapters.{chapter_captions, method_comments, AreCommented}
 use Rattle.flowchart_methods.specs.private.Chapters.{IsChapter}
@@ -35,7 +36,7 @@ captions_push refused (n ∷ ms) m captions more first second = (
   (
     first.2.0 ++ more,
     captions_push refused ms m first.2.0 more first.2.1 second,
-    ap (λ l. l ++ more) first.2.2 ∙ append_assoc (method_captions n.name first.0) first.2.0 more,
+    ap (λ l. l ++ more) first.2.2 ∙ append_assoc (method_captions n.name (conditions_of n.body) first.0) first.2.0 more,
   ),
 )
 
@@ -48,8 +49,9 @@ one_chapter refused m c is = (
   (
     [],
     refl,
-    ap (λ n. method_captions n (body_statements c.text.body)) is.0
-        ∙ sym (append-nil (method_captions m.name (body_statements c.text.body))),
+    ap (λ n. method_captions n c.conditions.items (body_statements c.text.body)) is.0
+        ∙ ap (λ cs. method_captions m.name cs (body_statements c.text.body)) is.2
+        ∙ sym (append-nil (method_captions m.name (conditions_of m.body) (body_statements c.text.body))),
   ),
 )
 
@@ -158,10 +160,10 @@ next_commented notes walk i comments c old new is many has found same left all =
 
 -- a section: its heading, the captions of its drawing, and HTML
 pub adds_chapter : (chapter : Chapter) (html a b c d : List ℕ) → AddsInTurn (heading chapter.text.name ∷ []) a b
-    → AddsInTurn (statement_captions chapter.text.name (body_statements chapter.text.body)) b c → d ≡ c ++ html
+    → AddsInTurn (statement_captions chapter.text.name chapter.conditions.items (body_statements chapter.text.body)) b c
+    → d ≡ c ++ html
     → AddsInTurn (chapter_captions chapter) a d
 adds_chapter chapter html a b c d titled drawn behind =
     adds_behind (chapter_captions chapter) html a c d behind
-    (adds_then (heading chapter.text.name ∷ []) (statement_captions chapter.text.name (body_statements
-    chapter.text.body)) a b c titled
-    drawn)
+    (adds_then (heading chapter.text.name ∷ [])
+    (statement_captions chapter.text.name chapter.conditions.items (body_statements chapter.text.body)) a b c titled drawn)

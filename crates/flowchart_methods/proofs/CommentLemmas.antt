@@ -3,7 +3,7 @@ use Rattle.std.proofs.Common.{◌≡◌, ℕ, zero, suc, ◌+◌, ◌<◌, ◌�
 use Rattle.std.specs.Prelude.{String, ◌==◌, codes}
 use Rattle.std.specs.List.{join_with_byte}
 use Rattle.std.proofs.lemmas.List.{append-nil, map_push, take_more}
-use Rattle.flowchart_methods.specs.Escapes.{escaped}
+use Rattle.flowchart_markup.specs.Escapes.{escaped}
 use Rattle.flowchart_methods.specs.Comments.{comments_text, paragraph}
 
 -- pieces with a byte between two of them, and one piece more

@@ -1,5 +1,5 @@
 pub mod Laws
-pub mod EscapeLemmas
 pub mod TurnLemmas
 pub mod ChapterLemmas
 pub mod CommentLemmas
+pub mod ConditionLemmas

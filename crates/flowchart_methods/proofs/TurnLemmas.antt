@@ -1,10 +1,12 @@
 -- A page that is gone on with, piece by piece.
 use Rattle.std.proofs.Common.{◌≡◌, ℕ, ◌+◌, ◌<◌, ◌≤◌, List, [], ◌∷◌, ◌++◌, length, take, map, get_or, refl, sym, ap, subst, ◌∙◌, append_assoc}
-use Rattle.std.specs.Prelude.{Result, Ok, Err, OnOk}
+use Rattle.std.specs.Prelude.{Option, Result, Ok, Err, OnOk}
 use Rattle.std.specs.List.{flat_map}
 use Rattle.std.proofs.lemmas.List.{append-nil, map-append, flat_map_more, take_more, take_all}
 use Rattle.chart_layout.specs.Drawn.{Drawn}
 use Rattle.flowchart_methods.specs.Turns.{AddsInTurn}
+use Rattle.flowchart_methods.specs.declared.conditions.Condition.{Condition}
+use Rattle.flowchart_methods.specs.Conditions.{condition_at}
 use Rattle.flowchart_methods.specs.Captions.{statement_caption, statement_captions}
 use Rattle.flowchart_methods.proofs.Laws.{adds_none, adds_before, adds_behind, adds_then}
 
@@ -32,10 +34,10 @@ adds_inside texts first last a b c d before adds behind =
     adds_behind texts last a c d behind (adds_before texts first a b c before adds)
 
 -- HTML, a text, and HTML
-pub adds_between : (text written first last a b c d : List ℕ) → b ≡ a ++ first → c ≡ b ++ written → written ≡ text → d ≡ c ++ last
+pub adds_middle : (text first last a b c d : List ℕ) → b ≡ a ++ first → c ≡ b ++ text → d ≡ c ++ last
     → AddsInTurn (text ∷ []) a d
-adds_between text written first last a b c d before said is behind =
-    adds_inside (text ∷ []) first last a b c d before (adds_text text b c (said ∙ ap (λ l. b ++ l) is)) behind
+adds_middle text first last a b c d before is behind =
+    adds_inside (text ∷ []) first last a b c d before (adds_text text b c is) behind
 
 -- what follows of an answer that is Ok
 pub on_ok : {A E : Type 0} (r : Result A E) (P Q : Type 0) → OnOk r P → (P → Q) → OnOk r Q
@@ -72,23 +74,24 @@ flat_map_each f (x ∷ xs) = ap (λ l. f x ∷ l) (flat_map_each f xs)
 
 -- ---- captions of the statements that each of some things has
 
-captions-append : (name : List ℕ) (xs ys : List Drawn)
-    → statement_captions name (xs ++ ys) ≡ statement_captions name xs ++ statement_captions name ys
-captions-append name xs ys = map-append (statement_caption name) xs ys
+captions-append : (name : List ℕ) (cs : List (Option Condition)) (xs ys : List Drawn)
+    → statement_captions name cs (xs ++ ys) ≡ statement_captions name cs xs ++ statement_captions name cs ys
+captions-append name cs xs ys = map-append (λ (d : Drawn). statement_caption name (condition_at cs d.number) d) xs ys
 
-pub captions_each : {A : Type 0} (name : List ℕ) (g : A → List Drawn) (xs : List A)
-    → flat_map (λ x. statement_captions name (g x)) xs ≡ statement_captions name (flat_map g xs)
-captions_each name g [] = refl
-captions_each name g (x ∷ xs) =
-    ap (λ l. statement_captions name (g x) ++ l) (captions_each name g xs)
-    ∙ sym (captions-append name (g x) (flat_map g xs))
+pub captions_each : {A : Type 0} (name : List ℕ) (cs : List (Option Condition)) (g : A → List Drawn) (xs : List A)
+    → flat_map (λ x. statement_captions name cs (g x)) xs ≡ statement_captions name cs (flat_map g xs)
+captions_each name cs g [] = refl
+captions_each name cs g (x ∷ xs) =
+    ap (λ l. statement_captions name cs (g x) ++ l) (captions_each name cs g xs)
+    ∙ sym (captions-append name cs (g x) (flat_map g xs))
 
-pub captions_all : {A : Type 0} (name : List ℕ) (g : A → List Drawn) (xs : List A) (i : ℕ) (a b : List ℕ) → length xs ≤ i
-    → AddsInTurn (flat_map (λ x. statement_captions name (g x)) (take i xs)) a b → AddsInTurn (statement_captions name (flat_map g xs)) a b
-captions_all name g xs i a b all adds =
-    subst (λ l. AddsInTurn l a b) (captions_each name g xs) (adds_all (λ x. statement_captions name (g x)) xs i a b all adds)
+pub captions_all : {A : Type 0} (name : List ℕ) (cs : List (Option Condition)) (g : A → List Drawn) (xs : List A) (i : ℕ)
+    (a b : List ℕ) → length xs ≤ i → AddsInTurn (flat_map (λ x. statement_captions name cs (g x)) (take i xs)) a b
+    → AddsInTurn (statement_captions name cs (flat_map g xs)) a b
+captions_all name cs g xs i a b all adds =
+    subst (λ l. AddsInTurn l a b) (captions_each name cs g xs) (adds_all (λ x. statement_captions name cs (g x)) xs i a b all adds)
 
 -- the captions of the same statements
-pub adds_same : (name : List ℕ) (xs ys : List Drawn) (a b : List ℕ) → xs ≡ ys → AddsInTurn (statement_captions name xs) a b
-    → AddsInTurn (statement_captions name ys) a b
-adds_same name xs ys a b same adds = subst (λ l. AddsInTurn (statement_captions name l) a b) same adds
+pub adds_same : (name : List ℕ) (cs : List (Option Condition)) (xs ys : List Drawn) (a b : List ℕ) → xs ≡ ys
+    → AddsInTurn (statement_captions name cs xs) a b → AddsInTurn (statement_captions name cs ys) a b
+adds_same name cs xs ys a b same adds = subst (λ l. AddsInTurn (statement_captions name cs l) a b) same adds

@@ -8,7 +8,7 @@ use Rattle.pap_reader.specs.Table.{same}
 use Rattle.plan_notes.specs.declared.tag.Mark.{Mark}
 use Rattle.plan_notes.specs.declared.notes.Notes.{Notes}
 use Rattle.plan_notes.specs.Walks.{comments_at}
-use Rattle.flowchart_methods.specs.Escapes.{escaped}
+use Rattle.flowchart_markup.specs.Escapes.{escaped}
 
 -- comments, with a space between two of them
 abbrev pub comments_text : List (String Global) → List ℕ

@@ -1,7 +1,7 @@
-pub mod Escapes
 pub mod Turns
 pub mod Comments
 pub mod Sites
+pub mod Conditions
 pub mod Captions
 pub mod Chapters
 pub mod private

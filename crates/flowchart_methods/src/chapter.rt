@@ -9,6 +9,7 @@ ghost use Rattle.flowchart_methods.specs.Captions.{methods_of, AreCaptions};
 ghost use Rattle.flowchart_methods.specs.Chapters.{chapter_captions, AreCommented};
 ghost use Rattle.flowchart_methods.specs.private.Chapters.{IsChapter};
 
+use crate::conditions::{Condition, read_conditions};
 use crate::site::Site;
 use chart_layout::{MethodText, read_method};
 use pap_reader::{Elements, RawStmt};
@@ -21,6 +22,8 @@ use std::alloc::{AllocError, Global};
 pub struct Chapter<'a> {
     /// The method with its drawing's statements.
     pub text: MethodText,
+    /// Under which condition each statement stands, by its number.
+    pub conditions: Vec<Option<Condition>>,
     /// The comments before it in the file.
     pub comments: &'a [String],
 }
@@ -73,5 +76,10 @@ fn read_chapter<'a>(
 {
     let refused = site.statement_in(&name);
     let text = read_method(alloc, name, body, walk, refused)?;
-    Ok(Chapter { text, comments })
+    let conditions = read_conditions(alloc, body)?;
+    Ok(Chapter {
+        text,
+        conditions,
+        comments,
+    })
 }

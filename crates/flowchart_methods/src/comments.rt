@@ -2,7 +2,7 @@
 ghost use Rattle.std.specs.Prelude.{◌≡◌, ◌++◌, OnOk};
 ghost use Rattle.flowchart_methods.specs.Comments.{comments_text, paragraph, is_tag, paragraphs, count_before, last_paragraph};
 
-use crate::page::Page;
+use flowchart_markup::{Fill, Page};
 use plan_notes::{Element, Mark, Notes};
 use std::alloc::AllocError;
 
@@ -12,7 +12,10 @@ pub fn write_comments(page: &mut Page, comments: &[String]) -> Result<(), AllocE
 {
     for (i, comment) in comments.iter().enumerate() {
         let space = if i > 0 { " " } else { "" };
-        page.element(space, comment.as_bytes(), "")?;
+        page.put(
+            "%%",
+            &[Fill::Text(space.as_bytes()), Fill::Text(comment.as_bytes())],
+        )?;
     }
     Ok(())
 }
@@ -24,9 +27,9 @@ pub(crate) fn write_paragraph(page: &mut Page, comments: &[String]) -> Result<()
     if comments.is_empty() {
         return Ok(());
     }
-    page.own("<p class=\"com\">")?;
+    page.put("<p class=\"com\">", &[])?;
     write_comments(page, comments)?;
-    page.own("</p>\n")
+    page.put("</p>\n", &[])
 }
 
 /// Appends the comments before the start tags or before the end tags of an element, a paragraph for each tag that has some.

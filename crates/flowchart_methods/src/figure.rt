@@ -5,10 +5,11 @@ ghost use Rattle.chart_layout.specs.Drawn.{row_statements, drawing_statements};
 ghost use Rattle.flowchart_methods.specs.Turns.{AddsInTurn};
 ghost use Rattle.flowchart_methods.specs.Captions.{statement_captions};
 
-use crate::page::Page;
+use crate::measures::px;
 use crate::statement::{Subject, write_box, write_call, write_test};
 use crate::symbols::{write_end, write_note, write_start, write_word};
 use chart_layout::{Drawing, Head, Part, Px, Row, Stroke};
+use flowchart_markup::{Fill, Page};
 use pap_tree::Name;
 use std::alloc::{AllocError, Global};
 
@@ -19,8 +20,8 @@ pub(crate) fn write_drawing(
     drawing: &Drawing<'_>,
 ) -> Result<(), AllocError>
     ensures { OnOk result (AddsInTurn
-        (statement_captions subject.entry.name.now (drawing_statements drawing.now.parts.items))
-        page.old page.new) }
+        (statement_captions subject.entry.name.now subject.entry.conditions.now
+        (drawing_statements drawing.now.parts.items)) page.old page.new) }
 {
     for (i, part) in drawing.parts.iter().enumerate() {
         write_part(page, subject, drawing, i, part)?;
@@ -37,12 +38,12 @@ fn write_part(
     part: &Part<'_>,
 ) -> Result<(), AllocError>
     ensures { OnOk result (AddsInTurn
-        (statement_captions subject.entry.name.now (flat_map row_statements part.now.rows.items))
-        page.old page.new) }
+        (statement_captions subject.entry.name.now subject.entry.conditions.now
+        (flat_map row_statements part.now.rows.items)) page.old page.new) }
 {
     page.append(&part_start(page.alloc(), subject.name, drawing, number, part)?)?;
     write_rows(page, subject, &part.rows)?;
-    page.own("</svg>")?;
+    page.put("</svg>", &[])?;
     Ok(())
 }
 
@@ -68,23 +69,50 @@ fn write_part_tag(
     number: usize,
     top: Px,
 ) -> Result<(), AllocError> {
-    let alloc = page.alloc();
-    let width = drawing.width;
+    let title = part_title(page.alloc(), name, number, drawing.parts.len())?;
     let height = part_end(drawing, number) - top;
-    let title = part_title(alloc, name, number, drawing.parts.len())?;
-    page.own(&format!(in alloc;
-        "<svg role=\"group\" aria-labelledby=\"t-{name}-{number}\" width=\"{width}\" height=\"{height}\" viewBox=\"0 {top} {width} {height}\"><title id=\"t-{name}-{number}\">{title}</title>"
-    )?)
+    put_part_tag(page, name, number, drawing.width, height, top, &title)
+}
+
+/// Appends the start tag of the part of a number, of this size, and this title.
+fn put_part_tag(
+    page: &mut Page,
+    name: &Name,
+    number: usize,
+    width: Px,
+    height: Px,
+    top: Px,
+    title: &str,
+) -> Result<(), AllocError> {
+    let fills = [
+        Fill::OfName(*name),
+        Fill::Number(number as u64),
+        px(width),
+        px(height),
+        px(top),
+        px(width),
+        px(height),
+        Fill::OfName(*name),
+        Fill::Number(number as u64),
+        Fill::Text(title.as_bytes()),
+    ];
+    page.put(
+        "<svg role=\"group\" aria-labelledby=\"t-%-%\" width=\"%\" height=\"%\" viewBox=\"0 % % %\"><title id=\"t-%-%\">%</title>",
+        &fills,
+    )
 }
 
 /// Appends the lines of a part, and its arrowheads.
 fn write_part_lines(page: &mut Page, part: &Part<'_>) -> Result<(), AllocError> {
-    page.own("<path aria-hidden=\"true\" class=\"l\" d=\"")?;
-    write_strokes(page, &part.verticals, "V")?;
-    write_strokes(page, &part.horizontals, "H")?;
-    page.own("\"/><path aria-hidden=\"true\" class=\"a\" d=\"")?;
-    write_heads(page, &part.heads)?;
-    page.own("\"/>")
+    let alloc = page.alloc();
+    let mut lines = String::new(alloc);
+    push_strokes(alloc, &mut lines, &part.verticals, "V")?;
+    push_strokes(alloc, &mut lines, &part.horizontals, "H")?;
+    let heads = heads_text(alloc, &part.heads)?;
+    page.put(
+        "<path aria-hidden=\"true\" class=\"l\" d=\"%\"/><path aria-hidden=\"true\" class=\"a\" d=\"%\"/>",
+        &[Fill::Text(lines.as_bytes()), Fill::Text(heads.as_bytes())],
+    )
 }
 
 /// Where the part of a number ends: where the next begins, or at the drawing's height.
@@ -109,32 +137,36 @@ fn part_title(
     format!(in alloc; "Flowchart of {name}, part {number} of {count}")
 }
 
-/// Appends lines to a path; `to` is the letter of the way on which they go.
-fn write_strokes(page: &mut Page, strokes: &[Stroke], to: &str) -> Result<(), AllocError> {
-    let alloc = page.alloc();
+/// Appends lines to the text of a path; `to` is the letter of the way on which they go.
+fn push_strokes(
+    alloc: Global,
+    path: &mut String,
+    strokes: &[Stroke],
+    to: &str,
+) -> Result<(), AllocError> {
     for stroke in strokes {
         let Stroke { x, y, end } = *stroke;
-        page.own(&format!(in alloc; "M{x} {y}{to}{end}")?)?;
+        path.push_str(&format!(in alloc; "M{x} {y}{to}{end}")?)?;
     }
     Ok(())
 }
 
-/// Appends arrowheads to a path.
-fn write_heads(page: &mut Page, heads: &[Head]) -> Result<(), AllocError> {
-    let alloc = page.alloc();
+/// The text of a path of arrowheads.
+fn heads_text(alloc: Global, heads: &[Head]) -> Result<String, AllocError> {
+    let mut path = String::new(alloc);
     for head in heads {
         let Head { x, y, is_left } = *head;
         let shape = if is_left { "l7-4v8z" } else { "l-4-7h8z" };
-        page.own(&format!(in alloc; "M{x} {y}{shape}")?)?;
+        path.push_str(&format!(in alloc; "M{x} {y}{shape}")?)?;
     }
-    Ok(())
+    Ok(path)
 }
 
 /// Appends the symbols and words of a part.
 fn write_rows(page: &mut Page, subject: Subject<'_>, rows: &[Row<'_>]) -> Result<(), AllocError>
     ensures { OnOk result (AddsInTurn
-        (statement_captions subject.entry.name.now (flat_map row_statements rows.now))
-        page.old page.new) }
+        (statement_captions subject.entry.name.now subject.entry.conditions.now
+        (flat_map row_statements rows.now)) page.old page.new) }
 {
     for row in rows {
         write_row(page, subject, row)?;
@@ -145,7 +177,8 @@ fn write_rows(page: &mut Page, subject: Subject<'_>, rows: &[Row<'_>]) -> Result
 /// Appends a symbol or a word.
 fn write_row(page: &mut Page, subject: Subject<'_>, row: &Row<'_>) -> Result<(), AllocError>
     ensures { OnOk result (AddsInTurn
-        (statement_captions subject.entry.name.now (row_statements row.now)) page.old page.new) }
+        (statement_captions subject.entry.name.now subject.entry.conditions.now
+        (row_statements row.now)) page.old page.new) }
 {
     match row {
         Row::Box {

@@ -1,6 +1,12 @@
 //! The measures of what stands in a symbol or beside it, in px. Those of the symbols themselves are
 //! `chart_layout`'s.
 use chart_layout::Px;
+use flowchart_markup::Fill;
+
+/// A measure as it stands in markup.
+pub(crate) fn px(measure: Px) -> Fill<'static> {
+    Fill::Number(u64::from(measure.0))
+}
 
 /// How far below the top of a line of a statement its letters stand.
 pub(crate) const TEXT_BASE: Px = Px(13);

@@ -1,5 +1,5 @@
 //! The sections of the methods.
-ghost use Rattle.std.specs.Prelude.{◌≡◌, ◌∷◌, [], IfOk, OnOk, string_bytes};
+ghost use Rattle.std.specs.Prelude.{◌≡◌, ◌++◌, ◌∷◌, [], OnOk};
 ghost use Rattle.std.specs.List.{flat_map};
 ghost use Rattle.flowchart_methods.specs.Turns.{AddsInTurn};
 ghost use Rattle.chart_layout.specs.Drawn.{body_statements};
@@ -10,10 +10,10 @@ use crate::callers::Callers;
 use crate::chapter::Chapter;
 use crate::comments::write_paragraph;
 use crate::figure::write_drawing;
-use crate::page::Page;
 use crate::site::Site;
 use crate::statement::Subject;
 use chart_layout::{MethodText, draw};
+use flowchart_markup::{Fill, Page};
 use pap_reader::Elements;
 use pap_tree::Name;
 use std::alloc::{AllocError, Global};
@@ -63,16 +63,17 @@ fn write_method(
     write_method_head(page, chapter, callers, is_refused)?;
     let subject = Subject {
         name,
+        conditions: &chapter.conditions,
         is_refused,
         methods,
     };
     write_figure(page, subject, &chapter.text)?;
-    page.own("</div></section>\n")?;
+    page.put("</div></section>\n", &[])?;
     Ok(())
 }
 
 /// Appends what stands before a method's drawing: its name, its comments, and what executes it.
-#[tactic(auto, using(crate::proofs::TurnLemmas::adds_between))]
+#[tactic(auto, using(crate::proofs::TurnLemmas::adds_middle))]
 fn write_method_head(
     page: &mut Page,
     chapter: &Chapter<'_>,
@@ -83,8 +84,8 @@ fn write_method_head(
 {
     let alloc = page.alloc();
     let name = chapter.text.name;
-    page.own(&section_start(alloc, &name, is_refused)?)?;
-    page.own(&heading(alloc, &name)?)?;
+    page.append(&section_start(alloc, &name, is_refused)?)?;
+    write_heading(page, &name)?;
     page.append(&figure_start(alloc, chapter.comments, callers)?)?;
     Ok(())
 }
@@ -97,8 +98,8 @@ fn write_figure(
     method: &MethodText,
 ) -> Result<(), AllocError>
     ensures { OnOk result (AddsInTurn
-        (statement_captions subject.entry.name.now (body_statements method.now.body))
-        page.old page.new) }
+        (statement_captions subject.entry.name.now subject.entry.conditions.now
+        (body_statements method.now.body)) page.old page.new) }
 {
     let drawing = draw(page.alloc(), method)?;
     write_drawing(page, subject, &drawing)?;
@@ -106,27 +107,40 @@ fn write_figure(
 }
 
 /// The start tag of a method's section.
-fn section_start(alloc: Global, name: &Name, is_refused: bool) -> Result<String, AllocError> {
-    let class = if is_refused { "m bad" } else { "m" };
-    format!(in alloc;
-        "<section class=\"{class}\" id=\"method-{name}\" aria-labelledby=\"h-{name}\">"
-    )
+fn section_start(alloc: Global, name: &Name, is_refused: bool) -> Result<Page, AllocError> {
+    let mut page = Page::new(alloc);
+    let fills = [Fill::OfName(*name), Fill::OfName(*name)];
+    if is_refused {
+        page.put(
+            "<section class=\"m bad\" id=\"method-%\" aria-labelledby=\"h-%\">",
+            &fills,
+        )?;
+    } else {
+        page.put(
+            "<section class=\"m\" id=\"method-%\" aria-labelledby=\"h-%\">",
+            &fills,
+        )?;
+    }
+    Ok(page)
 }
 
-/// A method's name as a heading.
-fn heading(alloc: Global, name: &Name) -> Result<String, AllocError>
-    ensures { IfOk result (λ text. string_bytes text ≡ heading name.now) }
+/// Appends a method's name as a heading.
+fn write_heading(page: &mut Page, name: &Name) -> Result<(), AllocError>
+    ensures { OnOk result (page.new ≡ page.old ++ heading name.now) }
 {
-    format!(in alloc; "<h3 id=\"h-{name}\">{name}</h3>")
+    page.put(
+        "<h3 id=\"h-%\">%</h3>",
+        &[Fill::OfName(*name), Fill::OfName(*name)],
+    )
 }
 
 /// What stands between a method's name and its drawing: its comments, and what executes it.
 fn figure_start(alloc: Global, comments: &[String], callers: &[Name]) -> Result<Page, AllocError> {
     let mut page = Page::new(alloc);
-    page.own("\n")?;
+    page.put("\n", &[])?;
     write_paragraph(&mut page, comments)?;
     write_callers(&mut page, callers)?;
-    page.own("<div class=\"fig\">")?;
+    page.put("<div class=\"fig\">", &[])?;
     Ok(page)
 }
 
@@ -135,17 +149,21 @@ fn write_callers(page: &mut Page, callers: &[Name]) -> Result<(), AllocError> {
     if callers.is_empty() {
         return Ok(());
     }
-    page.own("<p class=\"by\">Executed by ")?;
+    page.put("<p class=\"by\">Executed by ", &[])?;
     write_links(page, callers)?;
-    page.own("</p>\n")
+    page.put("</p>\n", &[])
 }
 
 /// Appends links to methods, with a comma between two of them.
 fn write_links(page: &mut Page, methods: &[Name]) -> Result<(), AllocError> {
-    let alloc = page.alloc();
     for (i, method) in methods.iter().enumerate() {
-        let comma = if i > 0 { ", " } else { "" };
-        page.own(&format!(in alloc; "{comma}<a href=\"#method-{method}\">{method}</a>")?)?;
+        if i > 0 {
+            page.put(", ", &[])?;
+        }
+        page.put(
+            "<a href=\"#method-%\">%</a>",
+            &[Fill::OfName(*method), Fill::OfName(*method)],
+        )?;
     }
     Ok(())
 }

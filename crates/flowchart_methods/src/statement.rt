@@ -2,14 +2,18 @@
 ghost use Rattle.std.specs.Prelude.{◌≡◌, ◌++◌, ◌∷◌, [], IfOk, OnOk, map, string_bytes};
 ghost use Rattle.chart_layout.specs.Drawn.{drawn, drawn_statement, drawn_call};
 ghost use Rattle.flowchart_methods.specs.Turns.{AddsInTurn};
-ghost use Rattle.flowchart_methods.specs.Captions.{caption_start, caption_end, statement_caption, statement_captions};
+ghost use Rattle.flowchart_methods.specs.Conditions.{condition_at};
+ghost use Rattle.flowchart_methods.specs.Captions.{condition_text, placed_caption, statement_caption, statement_captions};
 
-use crate::measures::{CALL_BASE, CALL_LINE, CALL_PLACE_BASE, MARK_SIDE, PLACE_BASE, TEXT_BASE};
-use crate::page::Page;
+use crate::conditions::Condition;
+use crate::measures::{
+    CALL_BASE, CALL_LINE, CALL_PLACE_BASE, MARK_SIDE, PLACE_BASE, TEXT_BASE, px,
+};
 use chart_layout::{
     BOX_SIDE, CALL_HEIGHT, CALL_SIDE, Call, LINE_HEIGHT, Line, Piece, Px, STATEMENT_GAP, Statement,
     TEST_SIDE, TEXT_DROP, Written,
 };
+use flowchart_markup::{Fill, Page};
 use pap_tree::Name;
 use std::alloc::{AllocError, Global};
 
@@ -17,6 +21,8 @@ use std::alloc::{AllocError, Global};
 #[derive(Clone, Copy)]
 pub(crate) struct Subject<'a> {
     pub name: &'a Name,
+    /// Where each statement stands, by its number.
+    pub conditions: &'a [Option<Condition>],
     /// The plan is refused for the method.
     pub is_refused: bool,
     /// The names of the methods that there are, in order.
@@ -44,34 +50,36 @@ pub(crate) fn write_box(
     row: &[Statement],
 ) -> Result<(), AllocError>
     ensures { OnOk result (AddsInTurn
-        (statement_captions subject.entry.name.now (map drawn_statement row.now)) page.old page.new) }
+        (statement_captions subject.entry.name.now subject.entry.conditions.now
+        (map drawn_statement row.now)) page.old page.new) }
 {
-    let alloc = page.alloc();
-    page.own(&format!(in alloc;
-        "<rect class=\"b\" x=\"{x}\" y=\"{y}\" width=\"{width}\" height=\"{height}\"/>"
-    )?)?;
+    page.put(
+        "<rect class=\"b\" x=\"%\" y=\"%\" width=\"%\" height=\"%\"/>",
+        &[px(x), px(y), px(width), px(height)],
+    )?;
     let frame = TextFrame {
         x: x + BOX_SIDE,
         top: y + TEXT_DROP,
         end: x + width - BOX_SIDE,
     };
-    write_statements(page, subject.name, row, frame)?;
+    write_statements(page, subject, row, frame)?;
     Ok(())
 }
 
 /// Appends statements one below the other.
 fn write_statements(
     page: &mut Page,
-    name: &Name,
+    subject: Subject<'_>,
     row: &[Statement],
     frame: TextFrame,
 ) -> Result<(), AllocError>
     ensures { OnOk result (AddsInTurn
-        (statement_captions name.now (map drawn_statement row.now)) page.old page.new) }
+        (statement_captions subject.entry.name.now subject.entry.conditions.now
+        (map drawn_statement row.now)) page.old page.new) }
 {
     let mut frame = frame;
     for statement in row {
-        write_statement(page, name, statement, frame)?;
+        write_statement(page, subject, statement, frame)?;
         frame.top = frame.top + statement.height() + STATEMENT_GAP;
     }
     Ok(())
@@ -87,47 +95,72 @@ pub(crate) fn write_test(
     test: &Statement,
 ) -> Result<(), AllocError>
     ensures { OnOk result (AddsInTurn
-        (statement_captions subject.entry.name.now (drawn_statement test.now ∷ []))
-        page.old page.new) }
+        (statement_captions subject.entry.name.now subject.entry.conditions.now
+        (drawn_statement test.now ∷ [])) page.old page.new) }
 {
-    let alloc = page.alloc();
+    page.append(&hexagon(page.alloc(), x, y, test)?)?;
     let width = test.test_width();
-    let half = test.test_height().half();
-    let middle = y + half;
-    let point = TEST_SIDE.half();
-    let flat = width - TEST_SIDE;
-    let class = if test.is_refused { "d bad" } else { "d" };
-    page.own(&format!(in alloc;
-        "<path class=\"{class}\" d=\"M{x} {middle}l{point} -{half}h{flat}l{point} {half}l-{point} {half}h-{flat}z\"/>"
-    )?)?;
     let frame = TextFrame {
         x: x + TEST_SIDE,
         top: y + TEXT_DROP,
         end: x + width - TEST_SIDE,
     };
-    write_statement(page, subject.name, test, frame)?;
+    write_statement(page, subject, test, frame)?;
     Ok(())
+}
+
+/// The line round a test.
+fn hexagon(alloc: Global, x: Px, y: Px, test: &Statement) -> Result<Page, AllocError> {
+    let mut page = Page::new(alloc);
+    let half = test.test_height().half();
+    let point = TEST_SIDE.half();
+    let flat = test.test_width() - TEST_SIDE;
+    let numbers = [
+        px(x),
+        px(y + half),
+        px(point),
+        px(half),
+        px(flat),
+        px(point),
+        px(half),
+        px(point),
+        px(half),
+        px(flat),
+    ];
+    if test.is_refused {
+        page.put(
+            "<path class=\"d bad\" d=\"M% %l% -%h%l% %l-% %h-%z\"/>",
+            &numbers,
+        )?;
+    } else {
+        page.put(
+            "<path class=\"d\" d=\"M% %l% -%h%l% %l-% %h-%z\"/>",
+            &numbers,
+        )?;
+    }
+    Ok(page)
 }
 
 /// Appends a statement: its caption, its lines, and its place at their right end.
 #[tactic(auto, using(crate::proofs::TurnLemmas::adds_front))]
 fn write_statement(
     page: &mut Page,
-    name: &Name,
+    subject: Subject<'_>,
     statement: &Statement,
     frame: TextFrame,
 ) -> Result<(), AllocError>
     ensures { OnOk result (AddsInTurn
-        (statement_captions name.now (drawn_statement statement.now ∷ [])) page.old page.new) }
+        (statement_captions subject.entry.name.now subject.entry.conditions.now
+        (drawn_statement statement.now ∷ [])) page.old page.new) }
 {
     write_caption(
         page,
-        name,
+        subject,
         statement.number,
         statement.is_refused,
         &statement.written.text,
     )?;
-    page.append(&statement_lines(page.alloc(), name, statement, frame)?)?;
+    page.append(&statement_lines(page.alloc(), subject.name, statement, frame)?)?;
     Ok(())
 }
 
@@ -141,11 +174,12 @@ pub(crate) fn write_call(
     call: &Call,
 ) -> Result<(), AllocError>
     ensures { OnOk result (AddsInTurn
-        (statement_captions subject.entry.name.now (drawn_call call.now ∷ [])) page.old page.new) }
+        (statement_captions subject.entry.name.now subject.entry.conditions.now
+        (drawn_call call.now ∷ [])) page.old page.new) }
 {
     write_caption(
         page,
-        subject.name,
+        subject,
         call.number,
         call.is_refused,
         call.method.bytes(),
@@ -154,41 +188,87 @@ pub(crate) fn write_call(
     Ok(())
 }
 
-/// Appends the start of a statement's group: its place as the name to which links lead, its text as it is read aloud, and its
-/// class.
-#[tactic(auto, using(crate::proofs::TurnLemmas::three_parts))]
+/// Appends the start of a statement's group: its place as the name to which links lead, and what is read aloud of it: its place,
+/// under which condition it stands, and its text. Its class marks the refused one.
 fn write_caption(
     page: &mut Page,
-    name: &Name,
+    subject: Subject<'_>,
     number: u32,
     is_refused: bool,
     text: &[u8],
 ) -> Result<(), AllocError>
-    ensures { OnOk result (page.new
-        ≡ page.old ++ statement_caption name.now (drawn number is_refused text.now)) }
+    ensures { OnOk result (page.new ≡ page.old ++ statement_caption subject.entry.name.now
+        (condition_at subject.entry.conditions.now number) (drawn number is_refused text.now)) }
 {
-    let start = caption_start(page.alloc(), name, number)?;
-    page.own(&start)?;
-    page.text(text)?;
-    page.own(caption_end(is_refused))?;
-    Ok(())
+    let condition = condition_at(subject.conditions, number);
+    let condition = condition_text(page.alloc(), subject.name, condition)?;
+    put_caption(page, subject.name, number, is_refused, &condition, text)
 }
 
-/// The start of a caption, up to the text.
-fn caption_start(alloc: Global, name: &Name, number: u32) -> Result<String, AllocError>
-    ensures { IfOk result (λ text. string_bytes text ≡ caption_start name.now number) }
+/// Appends the start of a statement's group, by its condition as it is read aloud.
+fn put_caption<'a>(
+    page: &mut Page,
+    name: &Name,
+    number: u32,
+    is_refused: bool,
+    condition: &'a str,
+    text: &'a [u8],
+) -> Result<(), AllocError>
+    ensures { OnOk result (page.new ≡ page.old
+        ++ placed_caption name.now condition.now (drawn number is_refused text.now)) }
 {
-    format!(in alloc; "<g id=\"{name}:{number}\" role=\"group\" aria-label=\"")
-}
-
-/// The end of a caption, behind the text: the class of a statement, which marks the refused one.
-fn caption_end(is_refused: bool) -> &'static str
-    ensures { result.now ≡ caption_end is_refused }
-{
+    let place = u64::from(number);
     if is_refused {
-        "\" class=\"s bad\">"
+        page.put(
+            "<g id=\"%:%\" role=\"group\" aria-label=\"%:%%: %\" class=\"s bad\">",
+            &[
+                Fill::OfName(*name),
+                Fill::Number(place),
+                Fill::OfName(*name),
+                Fill::Number(place),
+                Fill::Text(condition.as_bytes()),
+                Fill::Text(text),
+            ],
+        )
     } else {
-        "\" class=\"s\">"
+        page.put(
+            "<g id=\"%:%\" role=\"group\" aria-label=\"%:%%: %\" class=\"s\">",
+            &[
+                Fill::OfName(*name),
+                Fill::Number(place),
+                Fill::OfName(*name),
+                Fill::Number(place),
+                Fill::Text(condition.as_bytes()),
+                Fill::Text(text),
+            ],
+        )
+    }
+}
+
+/// The condition under which a statement of a number stands.
+fn condition_at(conditions: &[Option<Condition>], number: u32) -> Option<Condition>
+    ensures { result ≡ condition_at conditions.now number }
+{
+    match conditions.get(number as usize) {
+        Some(condition) => *condition,
+        None => None,
+    }
+}
+
+/// A condition as it is read aloud.
+fn condition_text(
+    alloc: Global,
+    method: &Name,
+    condition: Option<Condition>,
+) -> Result<String, AllocError>
+    ensures { IfOk result (λ text. string_bytes text ≡ condition_text method.now condition) }
+{
+    match condition {
+        Some(Condition { test, holds: true }) => format!(in alloc; ", where {method}:{test} holds"),
+        Some(Condition { test, holds: false }) => {
+            format!(in alloc; ", where {method}:{test} does not hold")
+        }
+        None => Ok(String::new(alloc)),
     }
 }
 
@@ -218,19 +298,18 @@ fn statement_lines(
         frame.end,
         base,
     )?;
-    page.own("</g>")?;
+    page.put("</g>", &[])?;
     Ok(page)
 }
 
 /// Appends the mark of a refused statement, of a height.
 fn write_mark(page: &mut Page, frame: TextFrame, height: Px) -> Result<(), AllocError> {
-    let alloc = page.alloc();
     let x = frame.x - MARK_SIDE;
-    let y = frame.top;
     let width = frame.end + MARK_SIDE - x;
-    page.own(&format!(in alloc;
-        "<rect x=\"{x}\" y=\"{y}\" width=\"{width}\" height=\"{height}\"/>"
-    )?)
+    page.put(
+        "<rect x=\"%\" y=\"%\" width=\"%\" height=\"%\"/>",
+        &[px(x), px(frame.top), px(width), px(height)],
+    )
 }
 
 /// Appends the lines of a text, the first with its letters at a height.
@@ -251,12 +330,11 @@ fn write_line(
     x: Px,
     base: Px,
 ) -> Result<(), AllocError> {
-    let alloc = page.alloc();
     let x = x + line.left();
-    page.own(&format!(in alloc; "<text x=\"{x}\" y=\"{base}\">")?)?;
+    page.put("<text x=\"%\" y=\"%\">", &[px(x), px(base)])?;
     let pieces = written.pieces.get(line.first..line.last).unwrap_or(&[]);
     write_pieces(page, &written.text, pieces)?;
-    page.own("</text>")
+    page.put("</text>", &[])
 }
 
 /// Appends pieces of a text, those in grey that only say where a name comes from.
@@ -268,7 +346,7 @@ fn write_pieces(page: &mut Page, text: &[u8], pieces: &[Piece]) -> Result<(), Al
         page.text(text.get(piece.start..piece.end).unwrap_or(&[]))?;
     }
     if is_grey {
-        page.own("</tspan>")?;
+        page.put("</tspan>", &[])?;
     }
     Ok(())
 }
@@ -281,13 +359,13 @@ fn write_gap(
     is_grey: bool,
 ) -> Result<(), AllocError> {
     if is_grey && !piece.is_qualifier {
-        page.own("</tspan>")?;
+        page.put("</tspan>", &[])?;
     }
     if piece.is_spaced && !is_first {
-        page.own(" ")?;
+        page.put(" ", &[])?;
     }
     if piece.is_qualifier && !is_grey {
-        page.own("<tspan>")?;
+        page.put("<tspan>", &[])?;
     }
     Ok(())
 }
@@ -301,11 +379,20 @@ fn write_place(
     x: Px,
     y: Px,
 ) -> Result<(), AllocError> {
-    let alloc = page.alloc();
-    let word = if is_refused { "refused " } else { "" };
-    page.own(&format!(in alloc;
-        "<text class=\"p\" x=\"{x}\" y=\"{y}\">{word}{name}:{number}</text>"
-    )?)
+    let fills = [
+        px(x),
+        px(y),
+        Fill::OfName(*name),
+        Fill::Number(u64::from(number)),
+    ];
+    if is_refused {
+        page.put(
+            "<text class=\"p\" x=\"%\" y=\"%\">refused %:%</text>",
+            &fills,
+        )
+    } else {
+        page.put("<text class=\"p\" x=\"%\" y=\"%\">%:%</text>", &fills)
+    }
 }
 
 /// What stands in the group of an EXECUTE: its symbol, as a link to its method where that is there, and its place.
@@ -327,7 +414,7 @@ fn call_symbol(
         end,
         y + CALL_PLACE_BASE,
     )?;
-    page.own("</g>")?;
+    page.put("</g>", &[])?;
     Ok(page)
 }
 
@@ -339,14 +426,13 @@ fn write_call_link(
     y: Px,
     call: &Call,
 ) -> Result<(), AllocError> {
-    let alloc = page.alloc();
     let method = call.method;
     if subject.methods.binary_search(&method).is_err() {
         return write_call_box(page, &method, x, y, call.width());
     }
-    page.own(&format!(in alloc; "<a href=\"#method-{method}\">")?)?;
+    page.put("<a href=\"#method-%\">", &[Fill::OfName(method)])?;
     write_call_box(page, &method, x, y, call.width())?;
-    page.own("</a>")
+    page.put("</a>", &[])
 }
 
 /// Appends the box of an EXECUTE, with the name of its method.
@@ -357,13 +443,25 @@ fn write_call_box(
     y: Px,
     width: Px,
 ) -> Result<(), AllocError> {
-    let alloc = page.alloc();
     let left = x + CALL_LINE;
     let right = x + width - CALL_LINE;
-    let text_x = x + CALL_SIDE;
-    let text_y = y + CALL_BASE;
     let height = CALL_HEIGHT;
-    page.own(&format!(in alloc;
-        "<rect class=\"x\" x=\"{x}\" y=\"{y}\" width=\"{width}\" height=\"{height}\"/><path class=\"xx\" d=\"M{left} {y}v{height}M{right} {y}v{height}\"/><text class=\"m\" x=\"{text_x}\" y=\"{text_y}\">{method}</text>"
-    )?)
+    page.put(
+        "<rect class=\"x\" x=\"%\" y=\"%\" width=\"%\" height=\"%\"/><path class=\"xx\" d=\"M% %v%M% %v%\"/><text class=\"m\" x=\"%\" y=\"%\">%</text>",
+        &[
+            px(x),
+            px(y),
+            px(width),
+            px(height),
+            px(left),
+            px(y),
+            px(height),
+            px(right),
+            px(y),
+            px(height),
+            px(x + CALL_SIDE),
+            px(y + CALL_BASE),
+            Fill::OfName(*method),
+        ],
+    )
 }

@@ -2,10 +2,10 @@
 ghost use Rattle.std.specs.Prelude.{[], OnOk};
 ghost use Rattle.flowchart_methods.specs.Turns.{AddsInTurn};
 
-use crate::measures::{BRACKET, NOTE_BASE, NOTE_TEXT, TERMINATOR_BASE};
-use crate::page::Page;
+use crate::measures::{BRACKET, NOTE_BASE, NOTE_TEXT, TERMINATOR_BASE, px};
 use crate::statement::Subject;
 use chart_layout::{Anchor, NOTE_LINE, Note, Px, TERMINATOR_HEIGHT, TERMINATOR_SIDE, Word};
+use flowchart_markup::{Fill, Page};
 use pap_tree::Name;
 use std::alloc::{AllocError, Global};
 
@@ -19,8 +19,8 @@ pub(crate) fn write_start(
 ) -> Result<(), AllocError>
     ensures { OnOk result (AddsInTurn [] page.old page.new) }
 {
-    let class = if subject.is_refused { "t bad" } else { "t" };
-    write_terminator(page, class, x, y, width, subject.name.as_str())
+    let name = subject.name.as_str();
+    write_terminator(page, subject.is_refused, x, y, width, name)
 }
 
 /// Appends the symbol with which a method ends.
@@ -38,14 +38,14 @@ pub(crate) fn write_end(
     } else {
         "RETURN"
     };
-    write_terminator(page, "t", x, y, width, word)
+    write_terminator(page, false, x, y, width, word)
 }
 
-/// Appends the symbol of a class with which a method begins or ends, with its word.
+/// Appends the symbol with which a method begins or ends, with its word.
 #[tactic(auto, using(crate::proofs::TurnLemmas::adds_html))]
 fn write_terminator(
     page: &mut Page,
-    class: &str,
+    is_refused: bool,
     x: Px,
     y: Px,
     width: Px,
@@ -53,15 +53,42 @@ fn write_terminator(
 ) -> Result<(), AllocError>
     ensures { OnOk result (AddsInTurn [] page.old page.new) }
 {
-    let alloc = page.alloc();
-    let height = TERMINATOR_HEIGHT;
-    let round = height.half();
-    let text_x = x + TERMINATOR_SIDE;
-    let text_y = y + TERMINATOR_BASE;
-    page.own(&format!(in alloc;
-        "<rect class=\"{class}\" x=\"{x}\" y=\"{y}\" width=\"{width}\" height=\"{height}\" rx=\"{round}\"/><text class=\"n\" x=\"{text_x}\" y=\"{text_y}\">{word}</text>"
-    )?)?;
+    page.append(&terminator(page.alloc(), is_refused, x, y, width, word)?)?;
     Ok(())
+}
+
+/// The symbol with which a method begins or ends, with its word.
+fn terminator(
+    alloc: Global,
+    is_refused: bool,
+    x: Px,
+    y: Px,
+    width: Px,
+    word: &str,
+) -> Result<Page, AllocError> {
+    let mut page = Page::new(alloc);
+    let fills = [
+        px(x),
+        px(y),
+        px(width),
+        px(TERMINATOR_HEIGHT),
+        px(TERMINATOR_HEIGHT.half()),
+        px(x + TERMINATOR_SIDE),
+        px(y + TERMINATOR_BASE),
+        Fill::Text(word.as_bytes()),
+    ];
+    if is_refused {
+        page.put(
+            "<rect class=\"t bad\" x=\"%\" y=\"%\" width=\"%\" height=\"%\" rx=\"%\"/><text class=\"n\" x=\"%\" y=\"%\">%</text>",
+            &fills,
+        )?;
+    } else {
+        page.put(
+            "<rect class=\"t\" x=\"%\" y=\"%\" width=\"%\" height=\"%\" rx=\"%\"/><text class=\"n\" x=\"%\" y=\"%\">%</text>",
+            &fills,
+        )?;
+    }
+    Ok(page)
 }
 
 /// Appends a word of a test's ways.
@@ -75,18 +102,30 @@ pub(crate) fn write_word(
 ) -> Result<(), AllocError>
     ensures { OnOk result (AddsInTurn [] page.old page.new) }
 {
-    let alloc = page.alloc();
-    let class = match anchor {
-        Anchor::Begins => "y",
-        Anchor::Ends => "e",
-    };
+    page.append(&word_symbol(page.alloc(), x, y, word, anchor)?)?;
+    Ok(())
+}
+
+/// A word of a test's ways.
+fn word_symbol(
+    alloc: Global,
+    x: Px,
+    y: Px,
+    word: Word,
+    anchor: Anchor,
+) -> Result<Page, AllocError> {
+    let mut page = Page::new(alloc);
     let word = match word {
         Word::Yes => "yes",
         Word::No => "no",
         Word::YesOrNo => "yes or no",
     };
-    page.own(&format!(in alloc; "<text class=\"{class}\" x=\"{x}\" y=\"{y}\">{word}</text>")?)?;
-    Ok(())
+    let fills = [px(x), px(y), Fill::Text(word.as_bytes())];
+    match anchor {
+        Anchor::Begins => page.put("<text class=\"y\" x=\"%\" y=\"%\">%</text>", &fills)?,
+        Anchor::Ends => page.put("<text class=\"e\" x=\"%\" y=\"%\">%</text>", &fills)?,
+    }
+    Ok(page)
 }
 
 /// Appends comments beside the spine.
@@ -104,20 +143,22 @@ fn note_symbol(alloc: Global, spine: Px, y: Px, note: &Note) -> Result<Page, All
     let height = note.height();
     let middle = y + height.half();
     let right = spine + BRACKET;
-    page.own(&format!(in alloc;
-        "<path class=\"k\" d=\"M{spine} {middle}h10M{right} {y}h-6v{height}h6\"/>"
-    )?)?;
+    page.put(
+        "<path class=\"k\" d=\"M% %h10M% %h-6v%h6\"/>",
+        &[px(spine), px(middle), px(right), px(y), px(height)],
+    )?;
     write_note_lines(&mut page, spine + NOTE_TEXT, y + NOTE_BASE, note)?;
     Ok(page)
 }
 
 /// Appends the lines of comments, the first with its letters at a height.
 fn write_note_lines(page: &mut Page, x: Px, base: Px, note: &Note) -> Result<(), AllocError> {
-    let alloc = page.alloc();
     let mut base = base;
     for line in &note.lines {
-        let open = format!(in alloc; "<text class=\"c\" x=\"{x}\" y=\"{base}\">")?;
-        page.element(&open, line.as_bytes(), "</text>")?;
+        page.put(
+            "<text class=\"c\" x=\"%\" y=\"%\">%</text>",
+            &[px(x), px(base), Fill::Text(line.as_bytes())],
+        )?;
         base = base + NOTE_LINE;
     }
     Ok(())

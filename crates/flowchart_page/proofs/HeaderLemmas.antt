@@ -4,7 +4,7 @@ use Rattle.std.specs.Prelude.{OnOk, take, String, ◌==◌}
 use Rattle.std.proofs.Math.Seq.{take-append_seam}
 use Rattle.pap_plan.specs.declared.refusal.PlanRefusal.{PlanRefusal}
 use Rattle.plan_answers.specs.Answers.{Answer, IsRefusal}
-use Rattle.flowchart_methods.specs.Escapes.{escaped}
+use Rattle.flowchart_markup.specs.Escapes.{escaped}
 use Rattle.flowchart_methods.specs.Comments.{comments_text}
 use Rattle.flowchart_page.specs.Heads.{lead_text}
 use Rattle.flowchart_page.specs.Pages.{shown_parts, IsRefusalLine}

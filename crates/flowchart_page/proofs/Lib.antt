@@ -1,4 +1,6 @@
 pub mod VerdictLemmas
 pub mod PageLemmas
 pub mod HeaderLemmas
+pub mod TableLemmas
+pub mod RangeLemmas
 pub mod SiteLemmas

@@ -1,6 +1,16 @@
 -- A page from its parts.
-use Rattle.std.proofs.Common.{◌≡◌, ◌≢◌, inl, inr, ℕ, Option, List, [], ◌++◌, refl, sym, ap, subst, ◌∙◌, append_assoc, Global}
-use Rattle.std.specs.Prelude.{String}
+use Rattle.std.proofs.Common.{◌≡◌, ◌≢◌, inl, inr, ℕ, ◌<◌, Option, Some, None, List, [], ◌++◌, length, refl, sym, ap, subst, ◌∙◌, append_assoc, Global}
+use Rattle.std.specs.Prelude.{String, Err}
+use Rattle.std.specs.declared.alloc.AllocError.{AllocError}
+use Rattle.limits_file.specs.declared.limits.Limits.{Limits}
+use Rattle.limits_file.specs.declared.fault.LimitsFault.{LimitsFault}
+use Rattle.limits_file.specs.declared.fault.LimitsFault.TheVariants as ranges
+use Rattle.limits_file.specs.Faults.{too_long, no_toml, bad_key, bad_bound}
+use Rattle.limits_file.specs.Limits.{longest_limits}
+use Rattle.limits_file.specs.RangeFiles.{FileSays}
+use Rattle.plan_notes.specs.declared.notes.Notes.{Notes}
+use Rattle.plan_notes.specs.Notes.{HasNotes}
+use Rattle.flowchart_markup.specs.Fragments.{IsMarkedUp}
 use Rattle.pap_reader.specs.declared.fault.ReadFault.{ReadFault}
 use Rattle.pap_reader.specs.declared.fault.ReadFault.TheVariants as faults
 use Rattle.pap_reader.specs.Trees.{ElementTree}
@@ -10,13 +20,15 @@ use Rattle.flowchart_methods.specs.declared.site.Site.TheVariants.{Nowhere}
 use Rattle.flowchart_methods.specs.Turns.{StandInTurn, AddsInTurn}
 use Rattle.flowchart_methods.specs.Sites.{NamedStatement, named_statement}
 use Rattle.flowchart_methods.specs.Captions.{AreCaptions, methods_of}
-use Rattle.flowchart_methods.proofs.Laws.{turn-before, turn-behind}
+use Rattle.flowchart_methods.proofs.Laws.{turn-before, turn-behind, adds_behind, adds_then}
 use Rattle.flowchart_page.specs.Findings.{Finding, IsFound, marked}
 use Rattle.flowchart_page.specs.Heads.{page_head}
-use Rattle.flowchart_page.specs.Pages.{page_end, IsWholePage, Says, Shows, IsPage}
+use Rattle.flowchart_page.specs.Declarations.{TableSource}
+use Rattle.flowchart_page.specs.Pages.{page_end, IsWholePage, Says, AreLimits, IsPage}
 use Rattle.flowchart_page.specs.declared.verdict.Verdict.{Verdict}
 use Rattle.flowchart_page.specs.declared.verdict.Verdict.TheVariants as verdicts
-use Rattle.flowchart_page.specs.private.PageViews.{IsAround, ShowsTree, ShowsVerdict}
+use Rattle.flowchart_page.specs.private.PageViews.{IsAround, ShowsTree, ShowsRead, HasTable, IsBehind, ShowsVerdict}
+use Rattle.flowchart_page.specs.private.TableViews.{AddsTable}
 use Rattle.flowchart_page.specs.private.VerdictViews.{finding_of, words_of, verdict_text, HasLine}
 
 four_parts : (a b c d p q r s t : List ℕ) → p ≡ [] → q ≡ p ++ a → r ≡ q ++ b → s ≡ r ++ c → t ≡ s ++ d
@@ -30,23 +42,25 @@ four_parts a b c d p q r s t is_p is_q is_r is_s is_t =
 -- its head, the verdict, what stands behind that, and its end
 pub page_around : (title : List ℕ) (version : Option (List ℕ)) (lead : List (String Global)) (verdict rest p q r s t : List ℕ)
     → p ≡ [] → q ≡ p ++ page_head title version lead → r ≡ q ++ verdict → s ≡ r ++ rest → t ≡ s ++ page_end
-    → IsAround verdict rest t
-page_around title version lead verdict rest p q r s t is_p is_q is_r is_s is_t = record {
+    → IsMarkedUp rest → IsAround verdict rest t
+page_around title version lead verdict rest p q r s t is_p is_q is_r is_s is_t marked_up = record {
   title = title;
   version = version;
   lead = lead;
   whole = four_parts (page_head title version lead) verdict rest page_end p q r s t is_p is_q is_r is_s is_t;
+  marked_up = marked_up;
 }
 
--- the same with these captions
-pub whole_page : (verdict : List ℕ) (captions : List (List ℕ)) (rest page : List ℕ) → StandInTurn captions rest
-    → IsAround verdict rest page → IsWholePage verdict captions page
-whole_page verdict captions rest page stand around = record {
+-- the same with these texts
+pub whole_page : (verdict : List ℕ) (texts : List (List ℕ)) (rest page : List ℕ) → StandInTurn texts rest
+    → IsAround verdict rest page → IsWholePage verdict texts page
+whole_page verdict texts rest page stand around = record {
   title = around.title;
   version = around.version;
   lead = around.lead;
   rest = rest;
   whole = around.whole;
+  marked_up = around.marked_up;
   stand = stand;
 }
 
@@ -66,38 +80,88 @@ fault_of bytes (faults.Many which) n h = h
 fault_of bytes faults.Memory n h = absurd (n refl)
 
 -- the page of a file that isn't read as a plan
-pub unread_page : (finding : Finding) (verdict : Site → List ℕ) (plan : List ℕ) (f : ReadFault) (page : List ℕ)
-    → f ≢ faults.Memory → IsFaultOrMemory plan f → IsWholePage (verdict Nowhere) [] page
-    → ShowsVerdict plan finding verdict page
-unread_page finding verdict plan f page n h whole = record {
+pub unread_page : (finding : Finding) (verdict : Site → List ℕ) (plan : List ℕ) (file : Option (List ℕ)) (f : ReadFault)
+    (page : List ℕ) → f ≢ faults.Memory → IsFaultOrMemory plan f → IsWholePage (verdict Nowhere) [] page
+    → ShowsVerdict plan file finding verdict page
+unread_page finding verdict plan file f page n h whole = record {
   site = Nowhere;
-  shown = record { captions = []; are_captions = inr (f, fault_of plan f n h, refl, refl); whole = whole };
+  shown = record { texts = []; are_texts = inr (f, fault_of plan f n h, refl, refl); whole = whole };
 }
 
 -- the page of a plan that is read
-pub read_page : (finding : Finding) (verdict : Site → List ℕ) (plan : List ℕ) (tree : ElementTree) (page : List ℕ)
-    → IsElements plan tree → ShowsTree finding verdict tree page → ShowsVerdict plan finding verdict page
-read_page finding verdict plan tree page read shown = record {
+pub read_page : (finding : Finding) (verdict : Site → List ℕ) (plan : List ℕ) (file : Option (List ℕ)) (tree : ElementTree)
+    (page : List ℕ) → IsElements plan tree → ShowsTree plan file finding verdict tree page
+    → ShowsVerdict plan file finding verdict page
+read_page finding verdict plan file tree page read shown = record {
   site = shown.site;
-  shown = record {
-    captions = shown.captions;
-    are_captions = inl (tree, read, shown.names, shown.are_captions);
-    whole = shown.whole;
-  };
+  shown = record { texts = shown.texts; are_texts = inl (tree, read, shown.are_texts); whole = shown.whole };
 }
 
--- the same with these captions
-pub tree_page : (finding : Finding) (verdict : Site → List ℕ) (site : Site) (captions : List (List ℕ)) (tree : ElementTree)
-    (page : List ℕ) → named_statement site ≡ marked finding
-    → AreCaptions (named_statement site) (methods_of tree) captions → IsWholePage (verdict site) captions page
-    → ShowsTree finding verdict tree page
-tree_page finding verdict site captions tree page names are whole = record {
+-- the same with the comments of its file, and with its range file
+pub tree_page : (finding : Finding) (verdict : Site → List ℕ) (plan : List ℕ) (file : Option (List ℕ)) (notes : Notes)
+    (limits : Option Limits) (tree : ElementTree) (page : List ℕ) → HasNotes plan notes → AreLimits file limits
+    → ShowsRead notes limits finding verdict tree page → ShowsTree plan file finding verdict tree page
+tree_page finding verdict plan file notes limits tree page noted read shown = record {
+  site = shown.site;
+  texts = shown.table ++ shown.captions;
+  are_texts = record {
+    names = shown.names;
+    table = shown.table;
+    is_table = record { notes = notes; noted = noted; limits = limits; read = read; table = shown.is_table };
+    captions = shown.captions;
+    are_captions = shown.are_captions;
+    is = refl;
+  };
+  whole = shown.whole;
+}
+
+-- the same with what a refusal names
+pub site_page : (finding : Finding) (verdict : Site → List ℕ) (notes : Notes) (limits : Option Limits) (site : Site)
+    (captions : List (List ℕ)) (tree : ElementTree) (page : List ℕ) → named_statement site ≡ marked finding
+    → AreCaptions (named_statement site) (methods_of tree) captions
+    → HasTable (record { notes = notes; limits = limits; finding = finding; site = site }) tree captions (verdict site) page
+    → ShowsRead notes limits finding verdict tree page
+site_page finding verdict notes limits site captions tree page names are has = record {
   site = site;
   names = names;
+  table = has.table;
+  is_table = has.is_table;
   captions = captions;
   are_captions = subst (λ s. AreCaptions s (methods_of tree) captions) names are;
-  whole = whole;
+  whole = has.whole;
 }
+
+-- the same from what stands behind the verdict
+pub table_page : (source : TableSource) (tree : ElementTree) (captions : List (List ℕ)) (verdict rest page : List ℕ)
+    → IsBehind source tree captions rest → IsAround verdict rest page → HasTable source tree captions verdict page
+table_page source tree captions verdict rest page behind around = record {
+  table = behind.table;
+  is_table = behind.is_table;
+  whole = whole_page verdict (behind.table ++ captions) rest page behind.stand around;
+}
+
+-- what stands behind the verdict, part by part
+pub behind_of : (source : TableSource) (tree : ElementTree) (captions : List (List ℕ)) (between more a b c d e : List ℕ)
+    → AddsTable source tree a b → c ≡ b ++ between → AddsInTurn captions c d → e ≡ d ++ more → IsBehind source tree captions e
+behind_of source tree captions between more a b c d e table is_c drawn is_e = record {
+  table = table.texts;
+  is_table = table.are;
+  stand = stand_behind (table.texts ++ captions) a d e more
+      (adds_then table.texts captions a c d (adds_behind table.texts between a b c is_c table.adds) drawn) is_e;
+}
+
+-- ---- the range file
+
+-- a file that isn't read as one
+pub no_limits : (bytes : List ℕ) (f : LimitsFault) → ((e : AllocError) → f ≢ ranges.Memory e)
+    → (f ≡ ranges.LimitsLong → longest_limits < length bytes) → (f ≡ ranges.Toml → FileSays bytes (Err no_toml))
+    → ((label : List ℕ) → f ≡ ranges.Key label → FileSays bytes (Err (bad_key label)))
+    → ((label : List ℕ) → f ≡ ranges.Bound label → FileSays bytes (Err (bad_bound label))) → AreLimits (Some bytes) None
+no_limits bytes ranges.LimitsLong known long toml key bound = (too_long, long refl)
+no_limits bytes ranges.Toml known long toml key bound = (no_toml, toml refl)
+no_limits bytes (ranges.Key label) known long toml key bound = (bad_key label, key label refl)
+no_limits bytes (ranges.Bound label) known long toml key bound = (bad_bound label, bound label refl)
+no_limits bytes (ranges.Memory e) known long toml key bound = absurd (known e refl)
 
 says_all : (plan : List ℕ) (v : Verdict) (site : Site) → HasLine plan v
     → Says plan (finding_of v) (words_of v) site (verdict_text v site)
@@ -107,7 +171,7 @@ says_all plan (verdicts.Refused reason) site line = record { line = reason.line.
 
 -- the page of a plan that is judged
 pub judged_page : (v : Verdict) (plan page : List ℕ) (limits words : Option (List ℕ)) → IsFound plan limits (finding_of v)
-    → HasLine plan v → ShowsVerdict plan (finding_of v) (verdict_text v) page → words ≡ words_of v
+    → HasLine plan v → ShowsVerdict plan limits (finding_of v) (verdict_text v) page → words ≡ words_of v
     → IsPage plan limits words page
 judged_page v plan page limits words found line shown is = record {
   finding = finding_of v;

@@ -2,6 +2,8 @@ pub mod Verdicts
 pub mod Findings
 pub mod Styles
 pub mod Heads
+pub mod Ranges
+pub mod Declarations
 pub mod Pages
 pub mod Sites
 pub mod private

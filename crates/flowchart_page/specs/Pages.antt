@@ -1,15 +1,21 @@
 -- What a page says of its plan.
-use Rattle.std.specs.Prelude.{◌≡◌, ◌⊎◌, ℕ, Bool, true, false, ◌==◌, List, [], ◌∷◌, ◌++◌, codes, Option, Some, None, String}
+use Rattle.std.specs.Prelude.{◌≡◌, ◌⊎◌, ℕ, Bool, true, false, ◌==◌, List, [], ◌∷◌, ◌++◌, codes, Option, Some, None, Result, Ok, Err, String, ⊤}
 use Rattle.std.specs.declared.alloc.Global.{Global}
 use Rattle.std.specs.Fmt.{decimal}
 use Rattle.std.specs.List.{slice_split}
 use Rattle.pap_reader.specs.declared.fault.ReadFault.{ReadFault}
 use Rattle.pap_reader.specs.Trees.{ElementTree}
 use Rattle.pap_reader.specs.Elements.{IsElements, IsFault}
+use Rattle.limits_file.specs.declared.limits.Limits.{Limits}
+use Rattle.limits_file.specs.Faults.{Fault}
+use Rattle.limits_file.specs.RangeFiles.{FileSays}
+use Rattle.plan_notes.specs.declared.notes.Notes.{Notes}
+use Rattle.plan_notes.specs.Notes.{HasNotes}
 use Rattle.pap_types.specs.Meaning.{bound_of}
 use Rattle.pap_plan.specs.declared.refusal.PlanRefusal.{PlanRefusal}
 use Rattle.plan_answers.specs.Answers.{Answer, IsRefusal}
-use Rattle.flowchart_methods.specs.Escapes.{escaped}
+use Rattle.flowchart_markup.specs.Escapes.{escaped}
+use Rattle.flowchart_markup.specs.Fragments.{IsMarkedUp}
 use Rattle.flowchart_methods.specs.declared.site.Site.{Site}
 use Rattle.flowchart_methods.specs.declared.site.Site.TheVariants.{Statement, Method, Declared, Nowhere}
 use Rattle.flowchart_methods.specs.Sites.{named_statement}
@@ -17,19 +23,22 @@ use Rattle.flowchart_methods.specs.Turns.{StandInTurn}
 use Rattle.flowchart_methods.specs.Captions.{AreCaptions, methods_of}
 use Rattle.flowchart_page.specs.Findings.{Finding, accepted, in_order, refused, IsFound, marked}
 use Rattle.flowchart_page.specs.Heads.{page_head}
+use Rattle.flowchart_page.specs.Declarations.{IsDeclarationTable}
 
 -- the last line of a page
 abbrev pub page_end : List ℕ
 page_end = codes "</body></html>\n"
 
--- a page from its start to its end: its head, then the verdict, and what stands behind that, where these captions stand in turn
-pub record IsWholePage (verdict : List ℕ) (captions : List (List ℕ)) (page : List ℕ) : Type 0 where
+-- A page from its start to its end: its head, then the verdict, and behind that markup of the page's own, in which these texts stand
+-- in turn. The page's own markup says no verdict, and hides, runs and fetches nothing.
+pub record IsWholePage (verdict : List ℕ) (texts : List (List ℕ)) (page : List ℕ) : Type 0 where
   pub title : List ℕ
   pub version : Option (List ℕ)
   pub lead : List (String Global)
   pub rest : List ℕ
   pub whole : page ≡ page_head title version lead ++ (verdict ++ (rest ++ page_end))
-  pub stand : StandInTurn captions rest
+  pub marked_up : IsMarkedUp rest
+  pub stand : StandInTurn texts rest
 
 -- ---- the verdict
 
@@ -90,22 +99,47 @@ Says plan in_order None site verdict = verdict ≡ in_order_text
 Says plan (refused r) (Some words) site verdict = SaysRefused plan r words site verdict
 Says _ _ _ _ _ = ⊥
 
--- ---- the drawings
+-- ---- the table of declarations and the drawings
 
--- the captions of the plan's methods: where its refusal names a statement by its method's name and its number, the one
--- of that number is marked in each method of that name, and no other, and the verdict leads to it; no captions of a file that
--- isn't read as a plan
-abbrev pub ArePlanCaptions : List ℕ → Finding → Site → List (List ℕ) → Type 0
-ArePlanCaptions plan finding site captions =
-    ((tree : ElementTree) × IsElements plan tree × (named_statement site ≡ marked finding)
-    × AreCaptions (marked finding) (methods_of tree) captions)
-    ⊎ ((fault : ReadFault) × IsFault plan fault × (site ≡ Nowhere) × (captions ≡ []))
+-- what a range file says, where it is read
+abbrev pub AreLimits : Option (List ℕ) → Option Limits → Type 0
+AreLimits None None = ⊤
+AreLimits None (Some limits) = ⊥
+AreLimits (Some file) (Some limits) = FileSays file (Ok limits)
+AreLimits (Some file) None = (fault : Fault) × FileSays file (Err fault)
 
--- a whole page with this verdict, and behind it the captions of its methods
-pub record Shows (plan : List ℕ) (finding : Finding) (site : Site) (verdict page : List ℕ) : Type 0 where
+-- the titles and rows of the table of a plan of these elements, by the comments of its file and by its range file
+pub record IsPlanTable (plan : List ℕ) (file : Option (List ℕ)) (finding : Finding) (site : Site) (tree : ElementTree)
+    (texts : List (List ℕ)) : Type 0 where
+  pub notes : Notes
+  pub noted : HasNotes plan notes
+  pub limits : Option Limits
+  pub read : AreLimits file limits
+  pub table : IsDeclarationTable (record { notes = notes; limits = limits; finding = finding; site = site }) tree texts
+
+-- What a page says of a plan of these elements, one text behind another: the table of its declarations, and the captions of its
+-- methods. Where its refusal names a statement by its method's name and its number, the one of that number is marked in each method
+-- of that name, and no other, and the verdict leads to it.
+pub record AreTreeTexts (plan : List ℕ) (file : Option (List ℕ)) (finding : Finding) (site : Site) (tree : ElementTree)
+    (texts : List (List ℕ)) : Type 0 where
+  pub names : named_statement site ≡ marked finding
+  pub table : List (List ℕ)
+  pub is_table : IsPlanTable plan file finding site tree table
   pub captions : List (List ℕ)
-  pub are_captions : ArePlanCaptions plan finding site captions
-  pub whole : IsWholePage verdict captions page
+  pub are_captions : AreCaptions (marked finding) (methods_of tree) captions
+  pub is : texts ≡ table ++ captions
+
+-- what a page says of a plan; of a file that isn't read as a plan nothing
+abbrev pub ArePlanTexts : List ℕ → Option (List ℕ) → Finding → Site → List (List ℕ) → Type 0
+ArePlanTexts plan file finding site texts =
+    ((tree : ElementTree) × IsElements plan tree × AreTreeTexts plan file finding site tree texts)
+    ⊎ ((fault : ReadFault) × IsFault plan fault × (site ≡ Nowhere) × (texts ≡ []))
+
+-- a whole page with this verdict, and behind it what it says of the plan
+pub record Shows (plan : List ℕ) (file : Option (List ℕ)) (finding : Finding) (site : Site) (verdict page : List ℕ) : Type 0 where
+  pub texts : List (List ℕ)
+  pub are_texts : ArePlanTexts plan file finding site texts
+  pub whole : IsWholePage verdict texts page
 
 -- the verdict on the page is what is found of the plan, with the range file or without one, and it has these words on a refusal
 pub record IsPage (plan : List ℕ) (limits : Option (List ℕ)) (words : Option (List ℕ)) (page : List ℕ) : Type 0 where
@@ -114,4 +148,4 @@ pub record IsPage (plan : List ℕ) (limits : Option (List ℕ)) (words : Option
   pub site : Site
   pub verdict : List ℕ
   pub says : Says plan finding words site verdict
-  pub shown : Shows plan finding site verdict page
+  pub shown : Shows plan limits finding site verdict page

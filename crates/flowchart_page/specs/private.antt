@@ -1,5 +1,6 @@
 pub mod PageViews
-pub mod Ranges
+pub mod SourceViews
+pub mod TableViews
 pub mod SiteViews
 pub mod Sites
 pub mod VerdictViews

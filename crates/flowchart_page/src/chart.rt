@@ -1,14 +1,14 @@
 //! The whole page.
-ghost use Rattle.std.specs.Prelude.{◌≡◌, [], option_map, IfOk, string_bytes};
+ghost use Rattle.std.specs.Prelude.{◌≡◌, [], Some, option_map, IfOk, string_bytes};
 ghost use Rattle.std.specs.List.{flat_map};
 ghost use Rattle.pap_reader.specs.Trees.{tree_of};
 ghost use Rattle.flowchart_methods.specs.Chapters.{chapter_captions};
 ghost use Rattle.plain_words.specs.Places.{named_text};
 ghost use Rattle.flowchart_page.specs.Verdicts.{IsJudged};
 ghost use Rattle.flowchart_methods.specs.declared.site.Site.TheVariants.{Nowhere};
-ghost use Rattle.flowchart_methods.specs.Turns.{StandInTurn};
-ghost use Rattle.flowchart_page.specs.Pages.{IsWholePage, IsPage};
-ghost use Rattle.flowchart_page.specs.private.PageViews.{IsAround, ShowsTree, ShowsVerdict};
+ghost use Rattle.flowchart_page.specs.Pages.{IsWholePage, AreLimits, IsPage};
+ghost use Rattle.flowchart_page.specs.private.PageViews.{IsAround, ShowsTree, ShowsRead, HasTable, IsBehind, ShowsVerdict};
+ghost use Rattle.flowchart_page.specs.private.SourceViews.{table_source};
 ghost use Rattle.flowchart_page.specs.private.VerdictViews.{finding_of, words_of, verdict_text};
 
 use crate::declarations::{Declarations, write_declarations};
@@ -16,8 +16,9 @@ use crate::header::{Head, push_head, push_own, push_page, push_verdict};
 use crate::index::{write_index, write_key};
 use crate::site::site_shown;
 use crate::verdict::{Reason, Verdict, judge};
+use flowchart_markup::{Fill, Page};
 use flowchart_methods::{
-    Chapter, Page, Site, read_chapters, write_last_paragraph, write_methods, write_paragraphs,
+    Chapter, Site, read_chapters, write_last_paragraph, write_methods, write_paragraphs,
 };
 use limits_file::{Limits, LimitsFault, read_limits};
 use pap_reader::{Elements, ReadFault, read_elements};
@@ -78,7 +79,8 @@ fn write_chart(
     limits: Option<TextFile<'_>>,
     verdict: &Verdict,
 ) -> Result<Vec<u8>, AllocError>
-    ensures { IfOk result (λ page. ShowsVerdict plan.entry.bytes.now (finding_of verdict.now)
+    ensures { IfOk result (λ page. ShowsVerdict plan.entry.bytes.now
+        (option_map (λ file. file.bytes.now) limits.entry) (finding_of verdict.now)
         (verdict_text verdict.now) page.items) }
 {
     match read_elements(alloc, plan.bytes) {
@@ -96,7 +98,8 @@ fn read_page(
     verdict: &Verdict,
     elements: &Elements,
 ) -> Result<Vec<u8>, AllocError>
-    ensures { IfOk result (λ page. ShowsTree (finding_of verdict.now)
+    ensures { IfOk result (λ page. ShowsTree plan.entry.bytes.now
+        (option_map (λ file. file.bytes.now) limits.entry) (finding_of verdict.now)
         (verdict_text verdict.now) (tree_of elements.now) page.items) }
 {
     let notes = read_notes(alloc, plan.bytes)?;
@@ -111,11 +114,20 @@ fn read_page(
 }
 
 /// The ranges of a range file, where it is read.
-fn limits_of(alloc: Global, file: Option<TextFile<'_>>) -> Result<Option<Limits>, AllocError> {
-    let Some(file) = file else {
-        return Ok(None);
-    };
-    match read_limits(alloc, file.bytes) {
+fn limits_of(alloc: Global, file: Option<TextFile<'_>>) -> Result<Option<Limits>, AllocError>
+    ensures { IfOk result (AreLimits (option_map (λ file. file.bytes.now) file.entry)) }
+{
+    match file {
+        Some(file) => limits_read(alloc, file.bytes),
+        None => Ok(None),
+    }
+}
+
+/// The ranges of the bytes of a range file, where they are read.
+fn limits_read(alloc: Global, bytes: &[u8]) -> Result<Option<Limits>, AllocError>
+    ensures { IfOk result (AreLimits (Some bytes.now)) }
+{
+    match read_limits(alloc, bytes) {
         Ok(limits) => Ok(Some(limits)),
         Err(LimitsFault::Memory(error)) => Err(error),
         Err(_) => Ok(None),
@@ -137,8 +149,9 @@ fn empty_page(alloc: Global, file: &str, verdict: &Verdict) -> Result<Vec<u8>, A
         IsWholePage (verdict_text verdict.now Nowhere) [] page.items) }
 {
     let mut rest = Page::new(alloc);
-    rest.own(
+    rest.put(
         "<p class=\"sub\" id=\"methods\">There is nothing to draw: the file is not read as a flowchart.</p></header>",
+        &[],
     )?;
     let head = Head {
         title: file,
@@ -169,8 +182,9 @@ fn page_of(
 
 /// The page of a plan with its methods.
 fn plan_page(alloc: Global, elements: &Elements, source: Source<'_>) -> Result<Vec<u8>, AllocError>
-    ensures { IfOk result (λ page. ShowsTree (finding_of source.entry.verdict.now)
-        (verdict_text source.entry.verdict.now) (tree_of elements.now) page.items) }
+    ensures { IfOk result (λ page. ShowsRead source.entry.notes.now source.entry.limits.now
+        (finding_of source.entry.verdict.now) (verdict_text source.entry.verdict.now)
+        (tree_of elements.now) page.items) }
 {
     let site = site_shown(elements, source.verdict);
     let chapters = read_chapters(alloc, elements, source.notes, &site)?;
@@ -185,9 +199,9 @@ fn whole_page(
     chapters: &[Chapter<'_>],
     site: &Site,
 ) -> Result<Vec<u8>, AllocError>
-    ensures { IfOk result (λ page.
-        IsWholePage (verdict_text source.entry.verdict.now site.now)
-        (flat_map chapter_captions chapters.now) page.items) }
+    ensures { IfOk result (λ page. HasTable (table_source source.entry site.now) (tree_of elements.now)
+        (flat_map chapter_captions chapters.now) (verdict_text source.entry.verdict.now site.now)
+        page.items) }
 {
     let rest = behind_verdict(alloc, elements, source, chapters, site)?;
     page_of(alloc, head_of(source), source.verdict, site, rest)
@@ -201,9 +215,19 @@ fn behind_verdict(
     chapters: &[Chapter<'_>],
     site: &Site,
 ) -> Result<Page, AllocError>
-    ensures { IfOk result (StandInTurn (flat_map chapter_captions chapters.now)) }
+    ensures { IfOk result (IsBehind (table_source source.entry site.now) (tree_of elements.now)
+        (flat_map chapter_captions chapters.now)) }
 {
-    let mut page = before_methods(alloc, elements, source, chapters, site)?;
+    let mut page = before_table(alloc, chapters, site)?;
+    let declarations = Declarations {
+        elements,
+        notes: source.notes,
+        limits: source.limits,
+        verdict: source.verdict,
+        site,
+    };
+    write_declarations(&mut page, declarations)?;
+    page.append(&before_methods(alloc, source.notes)?)?;
     write_methods(&mut page, elements, chapters, site)?;
     page.append(&behind_methods(alloc, source.notes)?)?;
     Ok(page)
@@ -227,28 +251,19 @@ fn head_of<'a>(source: Source<'a>) -> Head<'a> {
     }
 }
 
-/// What stands between the sentence on a plan and its methods: their number, their index, the declarations, the key of the
-/// drawings, and comments.
-fn before_methods(
-    alloc: Global,
-    elements: &Elements,
-    source: Source<'_>,
-    chapters: &[Chapter<'_>],
-    site: &Site,
-) -> Result<Page, AllocError> {
+/// What stands between the sentence on a plan and its declarations: the number of its methods, and their index.
+fn before_table(alloc: Global, chapters: &[Chapter<'_>], site: &Site) -> Result<Page, AllocError> {
     let mut page = Page::new(alloc);
     write_counts(&mut page, chapters)?;
     write_index(&mut page, chapters, site)?;
-    let declarations = Declarations {
-        elements,
-        notes: source.notes,
-        limits: source.limits,
-        verdict: source.verdict,
-        site,
-    };
-    write_declarations(&mut page, &declarations)?;
+    Ok(page)
+}
+
+/// What stands between the declarations and the methods: the key of the drawings, and comments.
+fn before_methods(alloc: Global, notes: &Notes) -> Result<Page, AllocError> {
+    let mut page = Page::new(alloc);
     write_key(&mut page)?;
-    write_paragraphs(&mut page, source.notes, Element::Methods, false)?;
+    write_paragraphs(&mut page, notes, Element::Methods, false)?;
     Ok(page)
 }
 
@@ -258,13 +273,12 @@ fn behind_methods(alloc: Global, notes: &Notes) -> Result<Page, AllocError> {
     write_paragraphs(&mut page, notes, Element::Methods, true)?;
     write_paragraphs(&mut page, notes, Element::Pap, true)?;
     write_last_paragraph(&mut page, notes)?;
-    page.own("</section></main></div>")?;
+    page.put("</section></main></div>", &[])?;
     Ok(page)
 }
 
 /// Appends how many methods and statements there are.
 fn write_counts(page: &mut Page, chapters: &[Chapter<'_>]) -> Result<(), AllocError> {
-    let alloc = page.alloc();
     let methods = chapters.len();
     let statements = count_statements(chapters);
     let method = if methods == 1 { "method" } else { "methods" };
@@ -273,9 +287,15 @@ fn write_counts(page: &mut Page, chapters: &[Chapter<'_>]) -> Result<(), AllocEr
     } else {
         "statements"
     };
-    page.own(&format!(in alloc;
-        "<p class=\"sub\">{methods} {method}, {statements} {statement}</p></header>\n"
-    )?)
+    page.put(
+        "<p class=\"sub\">% %, % %</p></header>\n",
+        &[
+            Fill::Number(methods as u64),
+            Fill::Text(method.as_bytes()),
+            Fill::Number(u64::from(statements)),
+            Fill::Text(statement.as_bytes()),
+        ],
+    )
 }
 
 /// How many statements there are.

@@ -2,14 +2,16 @@
 ghost use Rattle.std.specs.Prelude.{◌≡◌, ◌++◌, ◌∷◌, [], IfOk, OnOk, option_map, string_bytes};
 ghost use Rattle.pap_types.specs.Meaning.{bound_of};
 ghost use Rattle.pap_plan.specs.Plans.{meaning};
-ghost use Rattle.flowchart_methods.specs.Escapes.{escaped};
+ghost use Rattle.flowchart_markup.specs.Escapes.{escaped};
+ghost use Rattle.flowchart_markup.specs.Fragments.{IsMarkedUp};
 ghost use Rattle.flowchart_page.specs.Heads.{page_head, head_start, version_text, lead_text};
 ghost use Rattle.flowchart_page.specs.Pages.{shown_parts, shown_words, link_text, accepted_text, refused_text};
 ghost use Rattle.flowchart_page.specs.private.VerdictViews.{verdict_text};
 
 use crate::style::STYLE;
 use crate::verdict::{Reason, Verdict};
-use flowchart_methods::{Page, Site, push_escaped, write_comments};
+use flowchart_markup::{Page, push_escaped};
+use flowchart_methods::{Site, write_comments};
 use pap_plan::Plan;
 use std::alloc::{AllocError, Global};
 
@@ -82,7 +84,8 @@ fn push_lead(alloc: Global, html: &mut Vec<u8>, comments: &[String]) -> Result<(
 
 /// Appends a part of a page.
 pub(crate) fn push_page(html: &mut Vec<u8>, part: Page) -> Result<(), AllocError>
-    ensures { OnOk result (html.new.items ≡ html.old.items ++ part) }
+    ensures grown { OnOk result (html.new.items ≡ html.old.items ++ part) }
+    ensures marked_up { IsMarkedUp part }
 {
     html.extend_from_slice(&part.into_bytes())
 }

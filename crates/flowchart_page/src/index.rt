@@ -1,5 +1,6 @@
 //! The index of the methods, and the key of their drawings.
-use flowchart_methods::{Chapter, Page, Site};
+use flowchart_markup::{Fill, Page};
+use flowchart_methods::{Chapter, Site};
 use std::alloc::AllocError;
 
 /// The key of the symbols, above the drawings.
@@ -12,31 +13,41 @@ pub(crate) fn write_index(
     chapters: &[Chapter<'_>],
     site: &Site,
 ) -> Result<(), AllocError> {
-    page.own(
+    page.put(
         "<div class=\"cols\"><nav aria-labelledby=\"index\"><h2 id=\"index\">Methods</h2><ul>\n",
+        &[],
     )?;
     for chapter in chapters {
         write_entry(page, chapter, site)?;
     }
-    page.own("</ul><p><a href=\"#declarations\">Declarations</a></p></nav><main>\n")
+    page.put(
+        "</ul><p><a href=\"#declarations\">Declarations</a></p></nav><main>\n",
+        &[],
+    )
 }
 
 /// Appends the entry of a method: a link to it, and how many statements it has.
 fn write_entry(page: &mut Page, chapter: &Chapter<'_>, site: &Site) -> Result<(), AllocError> {
-    let alloc = page.alloc();
     let name = chapter.text.name;
-    let count = chapter.text.count;
-    let class = if site.is_in(&name) {
-        " class=\"bad\""
+    let fills = [
+        Fill::OfName(name),
+        Fill::OfName(name),
+        Fill::Number(u64::from(chapter.text.count)),
+    ];
+    if site.is_in(&name) {
+        page.put(
+            "<li class=\"bad\"><a href=\"#method-%\">%</a> <span>%</span></li>\n",
+            &fills,
+        )
     } else {
-        ""
-    };
-    page.own(&format!(in alloc;
-        "<li{class}><a href=\"#method-{name}\">{name}</a> <span>{count}</span></li>\n"
-    )?)
+        page.put(
+            "<li><a href=\"#method-%\">%</a> <span>%</span></li>\n",
+            &fills,
+        )
+    }
 }
 
 /// Appends the key of the drawings, which begins their section.
 pub(crate) fn write_key(page: &mut Page) -> Result<(), AllocError> {
-    page.own(KEY)
+    page.put(KEY, &[])
 }

@@ -11,13 +11,13 @@ loop-i-init c = adds_none c.args.page.now
 
 pub loop-i-preserved : goal.loop-i-preserved
 loop-i-preserved c =
-    adds_more (λ p. statement_captions c.args.subject.name.now (part_statements p)) c.deref-part-items.result.now c.loop-i.i
+    adds_more (λ p. statement_captions c.args.subject.name.now c.args.subject.conditions.now (part_statements p)) c.deref-part-items.result.now c.loop-i.i
     c.part-item.result c.args.page.now c.loop-i.page c.write_part.new.page c.loop-i-test.true c.part-item.is c.loop-i.invariant
     c.in_ok-write_part.ensures
 
 pub returns : goal.returns
 returns c =
-    subst (λ ps. AddsInTurn (statement_captions c.args.subject.name.now (drawing_statements ps)) c.args.page.now c.loop-i.page)
+    subst (λ ps. AddsInTurn (statement_captions c.args.subject.name.now c.args.subject.conditions.now (drawing_statements ps)) c.args.page.now c.loop-i.page)
     c.deref-part-items.ensures.value
-    (captions_all c.args.subject.name.now part_statements c.deref-part-items.result.now c.loop-i.i c.args.page.now c.loop-i.page
+    (captions_all c.args.subject.name.now c.args.subject.conditions.now part_statements c.deref-part-items.result.now c.loop-i.i c.args.page.now c.loop-i.page
     c.loop-i-test.false c.loop-i.invariant)

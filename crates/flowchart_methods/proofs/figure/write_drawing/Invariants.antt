@@ -8,5 +8,5 @@ use Rattle.flowchart_methods.proofs.figure.write_drawing.Given as goal
 -- the statements of the parts so far have their captions
 abbrev pub invariant-loop-i : goal.invariant-loop-i
 invariant-loop-i l =
-    AddsInTurn (flat_map (λ p. statement_captions l.subject.name.now (part_statements p)) (take l.i l.part-items))
+    AddsInTurn (flat_map (λ p. statement_captions l.subject.name.now l.subject.conditions.now (part_statements p)) (take l.i l.part-items))
     l.initial.page l.page

@@ -8,5 +8,5 @@ use Rattle.flowchart_methods.proofs.figure.write_rows.Given as goal
 -- the statements of the rows so far have their captions
 abbrev pub invariant-loop-row : goal.invariant-loop-row
 invariant-loop-row l =
-    AddsInTurn (flat_map (λ r. statement_captions l.subject.name.now (row_statements r)) (take l.row-index l.rows))
+    AddsInTurn (flat_map (λ r. statement_captions l.subject.name.now l.subject.conditions.now (row_statements r)) (take l.row-index l.rows))
     l.initial.page l.page

@@ -11,13 +11,13 @@ loop-statement-init c = adds_none c.args.page.now
 
 pub loop-statement-preserved : goal.loop-statement-preserved
 loop-statement-preserved c =
-    adds_more (λ s. statement_captions c.args.name.now (drawn_statement s ∷ [])) c.args.row.now c.loop-statement.statement-index
+    adds_more (λ s. statement_captions c.args.subject.name.now c.args.subject.conditions.now (drawn_statement s ∷ [])) c.args.row.now c.loop-statement.statement-index
     c.statement-item.result c.args.page.now c.loop-statement.page c.write_statement.new.page c.loop-statement-test.true c.statement-item.is
     c.loop-statement.invariant c.in_ok-write_statement.ensures
 
 pub returns : goal.returns
 returns c =
-    subst (λ ds. AddsInTurn (statement_captions c.args.name.now ds) c.args.page.now c.loop-statement.page)
+    subst (λ ds. AddsInTurn (statement_captions c.args.subject.name.now c.args.subject.conditions.now ds) c.args.page.now c.loop-statement.page)
     (flat_map_each drawn_statement c.args.row.now)
-    (captions_all c.args.name.now (λ s. drawn_statement s ∷ []) c.args.row.now c.loop-statement.statement-index c.args.page.now
+    (captions_all c.args.subject.name.now c.args.subject.conditions.now (λ s. drawn_statement s ∷ []) c.args.row.now c.loop-statement.statement-index c.args.page.now
     c.loop-statement.page c.loop-statement-test.false c.loop-statement.invariant)

@@ -8,5 +8,5 @@ use Rattle.flowchart_methods.proofs.statement.write_statements.Given as goal
 -- the statements so far have their captions
 abbrev pub invariant-loop-statement : goal.invariant-loop-statement
 invariant-loop-statement l =
-    AddsInTurn (flat_map (λ s. statement_captions l.name (drawn_statement s ∷ [])) (take l.statement-index l.row))
+    AddsInTurn (flat_map (λ s. statement_captions l.subject.name.now l.subject.conditions.now (drawn_statement s ∷ [])) (take l.statement-index l.row))
     l.initial.page l.page

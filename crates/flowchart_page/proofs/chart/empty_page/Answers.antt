@@ -10,4 +10,4 @@ pub returns : goal.returns
 returns c =
     let verdict = verdict_text c.args.verdict.now Nowhere in
     IfOk-weaker c.page_of.result _ (λ page. IsWholePage verdict [] page.items)
-    (λ page around. whole_page verdict [] c.own.new.self page.items tt around) c.page_of.ensures
+    (λ page around. whole_page verdict [] c.put.new.self page.items tt around) c.page_of.ensures

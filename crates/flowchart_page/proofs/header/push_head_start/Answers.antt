@@ -1,5 +1,5 @@
 use Rattle.std.proofs.Common.{◌++◌, ap, ◌∙◌, codes}
-use Rattle.flowchart_methods.specs.Escapes.{escaped}
+use Rattle.flowchart_markup.specs.Escapes.{escaped}
 use Rattle.flowchart_page.specs.Styles.{style_sheet}
 use Rattle.flowchart_page.specs.Heads.{page_start, body_start}
 use Rattle.flowchart_page.proofs.HeaderLemmas.{six_pieces}

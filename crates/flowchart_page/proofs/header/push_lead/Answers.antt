@@ -11,6 +11,6 @@ returns c =
     let text : c.write_comments.new.page ≡ comments_text comments =
     c.in_ok-write_comments.ensures ∙ ap (λ l. l ++ comments_text comments) c.new-text.ensures in
     three_pieces (codes "<p class=\"lead\">") (comments_text comments) (codes "</p>\n") old begun c.push_page.new.html.items
-    c.push_own-2.new.html.items c.in_ok-push_own.ensures (c.in_ok-push_page.ensures ∙ ap (λ t. begun ++ t) text)
+    c.push_own-2.new.html.items c.in_ok-push_own.ensures (c.in_ok-push_page.ensures.grown ∙ ap (λ t. begun ++ t) text)
     c.in_ok-push_own-2.ensures
     ∙ ap (λ p. old ++ p) (lead_of comments (sym c.is_empty.ensures ∙ c.if-is_empty.false))

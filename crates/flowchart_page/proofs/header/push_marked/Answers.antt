@@ -1,4 +1,4 @@
-use Rattle.flowchart_methods.specs.Escapes.{escaped}
+use Rattle.flowchart_markup.specs.Escapes.{escaped}
 use Rattle.flowchart_page.proofs.HeaderLemmas.{three_pieces}
 use Rattle.flowchart_page.proofs.header.push_marked.Goals as goal
 

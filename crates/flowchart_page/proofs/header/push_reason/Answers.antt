@@ -1,5 +1,5 @@
 use Rattle.std.proofs.Common.{◌++◌, ap, ◌∙◌, codes, string_bytes}
-use Rattle.flowchart_methods.specs.Escapes.{escaped}
+use Rattle.flowchart_markup.specs.Escapes.{escaped}
 use Rattle.flowchart_page.specs.Pages.{shown_words, link_text}
 use Rattle.flowchart_page.proofs.HeaderLemmas.{seven_pieces}
 use Rattle.flowchart_page.proofs.header.push_reason.Goals as goal

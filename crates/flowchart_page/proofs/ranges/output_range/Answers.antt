@@ -2,7 +2,7 @@ use Rattle.std.proofs.Common.{◌≡◌, ◌++◌, ap, ◌∙◌, rules, codes, 
 use Rattle.std.proofs.lemmas.Result.{IfOk-weaker}
 use Rattle.scaled_decimal.specs.Decimals.{decimal}
 use Rattle.scaled_decimal.specs.PlainTexts.{plain_text}
-use Rattle.flowchart_page.specs.private.Ranges.{range_text}
+use Rattle.flowchart_page.specs.Ranges.{range_text}
 use Rattle.flowchart_page.proofs.ranges.output_range.Goals as goal
 
 pub returns : goal.returns

@@ -1,0 +1,5 @@
+pub mod Escapes
+pub mod Templates
+pub mod Fragments
+pub mod TemplateLaws
+pub mod private

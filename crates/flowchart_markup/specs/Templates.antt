@@ -1,0 +1,109 @@
+-- The markup that a page may have behind its verdict. Percent signs stand for numbers, names and texts. Source: HTML and SVG, their
+-- elements and attributes.
+use Rattle.std.specs.Prelude.{ℕ, Bool, List, [], ◌∷◌, ◌++◌, codes}
+use Rattle.std.specs.List.{list_any}
+use Rattle.std.specs.Str.{bytes_eq}
+
+-- a text alone, and what stands between texts
+abbrev pub text_templates : List (List ℕ)
+text_templates =
+    codes "%" ∷
+    codes "%%" ∷
+    codes " " ∷
+    codes ", " ∷
+    codes "\n" ∷
+    codes "<p class=\"com\">" ∷
+    codes "</p>\n" ∷
+    []
+
+-- of a method: its section, its name, and links to it
+abbrev pub method_templates : List (List ℕ)
+method_templates =
+    codes "<section class=\"m\" id=\"method-%\" aria-labelledby=\"h-%\">" ∷
+    codes "<section class=\"m bad\" id=\"method-%\" aria-labelledby=\"h-%\">" ∷
+    codes "<h3 id=\"h-%\">%</h3>" ∷
+    codes "<div class=\"fig\">" ∷
+    codes "</div></section>\n" ∷
+    codes "<p class=\"by\">Executed by " ∷
+    codes "<a href=\"#method-%\">%</a>" ∷
+    codes "<a href=\"#method-%\">" ∷
+    codes "</a>" ∷
+    []
+
+-- of a drawing: its parts with their titles and lines, and its symbols that aren't statements
+abbrev pub drawing_templates : List (List ℕ)
+drawing_templates =
+    codes "<svg role=\"group\" aria-labelledby=\"t-%-%\" width=\"%\" height=\"%\" viewBox=\"0 % % %\"><title id=\"t-%-%\">%</title>" ∷
+    codes "<path aria-hidden=\"true\" class=\"l\" d=\"%\"/><path aria-hidden=\"true\" class=\"a\" d=\"%\"/>" ∷
+    codes "</svg>" ∷
+    codes "<rect class=\"t\" x=\"%\" y=\"%\" width=\"%\" height=\"%\" rx=\"%\"/><text class=\"n\" x=\"%\" y=\"%\">%</text>" ∷
+    codes "<rect class=\"t bad\" x=\"%\" y=\"%\" width=\"%\" height=\"%\" rx=\"%\"/><text class=\"n\" x=\"%\" y=\"%\">%</text>" ∷
+    codes "<text class=\"y\" x=\"%\" y=\"%\">%</text>" ∷
+    codes "<text class=\"e\" x=\"%\" y=\"%\">%</text>" ∷
+    codes "<path class=\"k\" d=\"M% %h10M% %h-6v%h6\"/>" ∷
+    codes "<text class=\"c\" x=\"%\" y=\"%\">%</text>" ∷
+    []
+
+-- of the statements of a drawing
+abbrev pub statement_templates : List (List ℕ)
+statement_templates =
+    codes "<g id=\"%:%\" role=\"group\" aria-label=\"%:%%: %\" class=\"s\">" ∷
+    codes "<g id=\"%:%\" role=\"group\" aria-label=\"%:%%: %\" class=\"s bad\">" ∷
+    codes "</g>" ∷
+    codes "<rect class=\"b\" x=\"%\" y=\"%\" width=\"%\" height=\"%\"/>" ∷
+    codes "<path class=\"d\" d=\"M% %l% -%h%l% %l-% %h-%z\"/>" ∷
+    codes "<path class=\"d bad\" d=\"M% %l% -%h%l% %l-% %h-%z\"/>" ∷
+    codes "<rect x=\"%\" y=\"%\" width=\"%\" height=\"%\"/>" ∷
+    codes "<text x=\"%\" y=\"%\">" ∷
+    codes "</text>" ∷
+    codes "<tspan>" ∷
+    codes "</tspan>" ∷
+    codes "<text class=\"p\" x=\"%\" y=\"%\">%:%</text>" ∷
+    codes "<text class=\"p\" x=\"%\" y=\"%\">refused %:%</text>" ∷
+    codes "<rect class=\"x\" x=\"%\" y=\"%\" width=\"%\" height=\"%\"/><path class=\"xx\" d=\"M% %v%M% %v%\"/><text class=\"m\" x=\"%\" y=\"%\">%</text>" ∷
+    []
+
+-- of the number of methods and statements, the index, and the key of the symbols
+abbrev pub index_templates : List (List ℕ)
+index_templates =
+    codes "<p class=\"sub\" id=\"methods\">There is nothing to draw: the file is not read as a flowchart.</p></header>" ∷
+    codes "<p class=\"sub\">% %, % %</p></header>\n" ∷
+    codes "<div class=\"cols\"><nav aria-labelledby=\"index\"><h2 id=\"index\">Methods</h2><ul>\n" ∷
+    codes "<li><a href=\"#method-%\">%</a> <span>%</span></li>\n" ∷
+    codes "<li class=\"bad\"><a href=\"#method-%\">%</a> <span>%</span></li>\n" ∷
+    codes "</ul><p><a href=\"#declarations\">Declarations</a></p></nav><main>\n" ∷
+    codes "<section id=\"methods\"><h2>Drawings</h2>\n<div class=\"key\"><svg aria-hidden=\"true\" width=\"566\" height=\"26\" viewBox=\"0 0 566 26\"><path class=\"d\" d=\"M2 13l10-10h34l10 10l-10 10h-34z\"/><text class=\"c\" x=\"63\" y=\"17\">test</text><rect class=\"b\" x=\"104\" y=\"3\" width=\"44\" height=\"20\"/><text class=\"c\" x=\"155\" y=\"17\">assignments</text><rect class=\"x\" x=\"242\" y=\"3\" width=\"44\" height=\"20\"/><path class=\"xx\" d=\"M247 3v20M281 3v20\"/><text class=\"c\" x=\"293\" y=\"17\">another method</text><path class=\"k\" d=\"M402 13h10M418 3h-6v20h6\"/><text class=\"c\" x=\"424\" y=\"17\">comment of the file</text></svg><p>After a test, <i>yes</i> goes one step to the right and <i>no</i> straight down, unless the words beside the lines say otherwise. The grey words are the places of the statements, as refusals name them.</p></div>\n" ∷
+    codes "</section></main></div>" ∷
+    []
+
+-- of the table of declarations
+abbrev pub table_templates : List (List ℕ)
+table_templates =
+    codes "<section id=\"declarations\"><h2>Declarations</h2>\n" ∷
+    codes "</section>\n" ∷
+    codes "<div class=\"scroll\"><table><thead><tr><th scope=\"col\">Name<th scope=\"col\">Type<th scope=\"col\">Default or value<th scope=\"col\">Range<th scope=\"col\">Comment</tr></thead>\n" ∷
+    codes "</table></div>\n" ∷
+    codes "<tbody><tr><th class=\"g\" colspan=\"5\" scope=\"rowgroup\">% <span>%</span></tr>\n" ∷
+    codes "</tbody>\n" ∷
+    codes "<tr><td class=\"com\" colspan=\"5\">" ∷
+    codes "</tr>\n" ∷
+    codes "<tr id=\"name-%\"><th scope=\"row\">%<td>%" ∷
+    codes "<tr id=\"name-%\" class=\"bad\"><th scope=\"row\">%<td>%" ∷
+    codes "<td class=\"num\">%<td class=\"num\">%<td>" ∷
+    codes "<td colspan=\"3\">" ∷
+    codes "<br>" ∷
+    codes "<span class=\"tab\">" ∷
+    codes "<span><i>%</i>%</span>" ∷
+    codes " <span><i>%</i>%</span>" ∷
+    codes "</span>" ∷
+    []
+
+-- all of it
+abbrev pub own_templates : List (List ℕ)
+own_templates =
+    text_templates
+    ++ (method_templates ++ (drawing_templates ++ (statement_templates ++ (index_templates ++ table_templates))))
+
+-- this markup is the page's own
+abbrev pub is_own : List ℕ → Bool
+is_own template = list_any (bytes_eq template) own_templates

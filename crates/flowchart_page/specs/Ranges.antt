@@ -1,0 +1,62 @@
+-- The ranges of declared names as the table of declarations shows them.
+use Rattle.std.specs.Prelude.{ℕ, ◌==◌, if◌then◌else◌, Option, Some, None, List, [], ◌++◌, codes, filter, slice_get}
+use Rattle.std.specs.Fmt.{decimal}
+use Rattle.std.specs.List.{flat_map}
+use Rattle.std.specs.Option.{option_map_or}
+use Rattle.std.specs.Str.{bytes_eq}
+use Rattle.scaled_decimal.specs.Decimals as decimals
+use Rattle.scaled_decimal.specs.PlainTexts.{plain_text}
+use Rattle.interval_num.specs.Intervals.{Interval}
+use Rattle.limits_file.specs.declared.limits.Binding.{Binding}
+use Rattle.limits_file.specs.declared.limits.Carry.{Carry}
+use Rattle.limits_file.specs.declared.limits.Carry.TheVariants.{Sum, Last, Count}
+use Rattle.limits_file.specs.declared.limits.InputLimit.{InputLimit}
+use Rattle.limits_file.specs.declared.limits.Limits.{Limits}
+use Rattle.limits_file.specs.Limits.{limit_named}
+use Rattle.pap_reader.specs.declared.element.Element.{Element}
+use Rattle.pap_reader.specs.declared.element.Element.TheVariants.{Input, Output}
+use Rattle.flowchart_page.specs.Findings.{Finding, accepted}
+
+-- how many digits the values of an input have behind the point at most, where they may have some
+abbrev pub places_text : ℕ → List ℕ
+places_text places =
+    if places == 0 then [] else
+    (if places == 1 then codes ", 1 place" else codes ", " ++ (decimal places ++ codes " places"))
+
+-- the limit of an input: LOW to HIGH, as plain decimals, and the places
+abbrev pub limit_text : InputLimit → List ℕ
+limit_text limit =
+    plain_text limit.low ++ (codes " to " ++ (plain_text limit.high ++ places_text limit.places))
+
+-- what an input carries over
+abbrev pub carry_text : Carry → List ℕ
+carry_text (Sum output) = codes "; sum of " ++ (output ++ codes " so far")
+carry_text (Last output) = codes "; last " ++ output
+carry_text Count = codes "; number of runs so far"
+
+-- what an input of a name carries over by some bindings
+abbrev pub carries_text : List Binding → List ℕ → List ℕ
+carries_text bindings name =
+    flat_map (λ binding. carry_text binding.carry) (filter (λ binding. bytes_eq binding.input name) bindings)
+
+-- what the range file says of an input of a name: its limit, and what it carries over
+abbrev pub input_text : Limits → List ℕ → List ℕ
+input_text limits name =
+    option_map_or limit_text (limit_named limits name) [] ++ carries_text limits.bindings name
+
+-- LOW to HIGH: both ends of a range, as plain decimals at its greatest scale
+abbrev pub range_text : Interval → List ℕ
+range_text range =
+    plain_text (decimals.decimal range.lo range.s_hi) ++ (codes " to " ++ plain_text (decimals.decimal range.hi range.s_hi))
+
+-- the range of the output of a number that was found: that of an accepted plan
+abbrev pub output_text : Finding → ℕ → List ℕ
+output_text (accepted m) number = option_map_or (λ output. range_text output.range) (slice_get m.outputs number) []
+output_text _ number = []
+
+-- the range of the declaration of a number and a name of a kind, where one is known: of inputs by the range file, of outputs by what
+-- was found
+abbrev pub range_shown : Element → Option Limits → Finding → ℕ → List ℕ → List ℕ
+range_shown Input (Some limits) finding number name = input_text limits name
+range_shown Output limits finding number name = output_text finding number
+range_shown _ _ _ _ _ = []

@@ -1,0 +1,9 @@
+-- What a page has beside its plan's elements, as its table shows it.
+use Rattle.flowchart_methods.specs.declared.site.Site.{Site}
+use Rattle.flowchart_page.specs.declared.chart.Source.{Source}
+use Rattle.flowchart_page.specs.Declarations.{TableSource}
+use Rattle.flowchart_page.specs.private.VerdictViews.{finding_of}
+
+abbrev pub table_source : Source → Site → TableSource
+table_source source site =
+    record { notes = source.notes.now; limits = source.limits.now; finding = finding_of source.verdict.now; site = site }
