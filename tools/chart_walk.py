@@ -191,6 +191,44 @@ def plan_lines(text):
     return {method.get("name", "MAIN"): file_lines(method.get("name", "MAIN"), list(method)) for method in methods}
 
 
+def file_captions(method, body):
+    """What is read aloud before the text of each statement of a method of the file: its place, and whether the nearest test holds."""
+    found = []
+
+    def take(statements, condition):
+        for statement in statements:
+            place = "%s:%d" % (method, len(found))
+            found.append(place + condition + ": ")
+            for branch in statement if statement.tag == "IF" else []:
+                take(branch, ", where %s %s" % (place, "holds" if branch.tag == "THEN" else "does not hold"))
+
+    take(body, "")
+    return found
+
+
+def plan_captions(text):
+    """What is read aloud before the texts of all statements of a plan's file, in its order, but that MAIN comes first."""
+    methods = list(ET.fromstring(re.sub(rb"<!--.*?-->", b"", text, flags=re.S)).find("METHODS"))
+    methods.sort(key=lambda method: method.tag != "MAIN")
+    return [caption for method in methods for caption in file_captions(method.get("name", "MAIN"), list(method))]
+
+
+def caption_faults(wanted, page):
+    """Faults of the captions of a page's statements: where one isn't as the file says."""
+    captions = re.findall(r'<g id="[^"]*" role="group" aria-label="([^"]*)"', page)
+    faults = ["the caption %r isn't that of %r" % (caption, begin) for caption, begin in zip(captions, wanted)
+              if not caption.startswith(begin)]
+    return faults + (["%d captions of %d statements" % (len(captions), len(wanted))] if len(captions) != len(wanted) else [])
+
+
+def with_a_condition_changed(page):
+    """The page where a statement's caption says the other way of its test, and where it says no way, for each that says one."""
+    for match in re.finditer(r", where \w+:\d+ (holds|does not hold):", page):
+        other = "does not hold" if match.group(1) == "holds" else "holds"
+        yield page[:match.start(1)] + other + page[match.end(1):]
+        yield page[:match.start()] + page[match.end() - 1:]
+
+
 def line_faults(wanted, page):
     """Faults of a page's lines: where one leads elsewhere than the file says."""
     faults, drawn = [], dict(svgs_of(page))

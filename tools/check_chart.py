@@ -5,11 +5,11 @@ Of each drawing: no line meets a symbol but where it enters or leaves it, no hor
 vertical lines lie over one another, no two symbols share a height, all is inside the drawing, and no cut goes through a
 symbol, a word or a comment. Each line, followed from symbol to symbol by the words at the ways of its test, leads where the file
 says (`chart_walk.py`). Of each page: each row of its table of declarations has the name, the type, the default or value and the comments
-of its declaration (`chart_table.py`); each statement and each comment is there once, a statement's caption has the
-characters of its lines, each link leads to a place of the page, each id stands once, and the drawings are well-formed XML; there
+of its declaration (`chart_table.py`); each statement and each comment is there once, a statement's caption has its place, on which
+way of the nearest test it stands, and the characters of its lines; each link leads to a place of the page, each id stands once, and the drawings are well-formed XML; there
 is no script, and nothing that is fetched; there is one verdict, and no element, attribute or comment that could hide it; what the
-verdict of a refused plan links to is marked, and of another nothing is. Pages that are changed so that a word, a line or the
-verdict is wrong have to be refused. Of a range file that is begun for a plan of random inputs: the plan is accepted with it, and
+verdict of a refused plan links to is marked, and of another nothing is. Pages that are changed so that a word, a line, a caption or
+the verdict is wrong have to be refused. Of a range file that is begun for a plan of random inputs: the plan is accepted with it, and
 the page shows the range of each name."""
 import os
 import random
@@ -201,7 +201,8 @@ class Part:
 
     def take_g(self, group):
         lines = [text for text in group.iter("text") if text.get("class") != "p"]
-        self.captions.append((group.get("aria-label"), "".join("".join(line.itertext()) for line in lines)))
+        caption = re.sub(r"^\w+:\d+(?:, where \w+:\d+ (?:holds|does not hold))?: ", "", group.get("aria-label"))
+        self.captions.append((caption, "".join("".join(line.itertext()) for line in lines)))
 
     def take_text(self, text):
         if text.get("class") in ("y", "e"):
@@ -302,6 +303,7 @@ def check_page(plan, status, page):
         parts = [Part(ET.fromstring(svg)) for svg in re.findall(r"<svg role.*?</svg>", section, re.S)]
         faults += check_drawing(parts)
     faults += chart_table.table_faults(plan.text(), text)
+    faults += chart_walk.caption_faults(chart_walk.plan_captions(plan.text()), text)
     return faults + chart_walk.line_faults(chart_walk.plan_lines(plan.text()), text)
 
 
@@ -329,6 +331,11 @@ def check_changed_pages(binary, folder):
     for changed_pages in (chart_walk.with_words_changed, chart_walk.with_a_line_led_back, chart_walk.without_a_line):
         found = [bool(chart_walk.line_faults(wanted, changed)) for changed in changed_pages(page)]
         refused, pages = refused + sum(found), pages + max(1, len(found))
+    captions = chart_walk.plan_captions(CHANGED_PLAN)
+    if chart_walk.caption_faults(captions, page):
+        return refused, pages + 1
+    found = [bool(chart_walk.caption_faults(captions, changed)) for changed in chart_walk.with_a_condition_changed(page)]
+    refused, pages = refused + sum(found), pages + max(1, len(found))
     found = [bool(check_verdict(changed)) for changed in with_another_verdict(page)]
     refused, pages = refused + sum(found), pages + len(found)
     page = draw(binary, folder, TABLE_PLAN).stdout.decode("utf-8")
