@@ -1,5 +1,5 @@
 //! A line's answer, written or kept.
-ghost use Rattle.std.specs.Prelude.{◌≡◌, ◌≢◌, ◌++◌, [], if◌then◌else◌, is_some, None, Some, IfOk, OnOk, Err};
+ghost use Rattle.std.specs.Prelude.{◌≡◌, ◌≢◌, is_some, None, Some, IfOk, Err};
 ghost use Rattle.std.specs.Result.{ForErr};
 ghost use Rattle.outside.specs.Causes.{Caused};
 ghost use Rattle.script_steps.specs.StepClauses.{IsBroken};
@@ -7,10 +7,9 @@ ghost use Rattle.script_steps.specs.Shown.{shown};
 ghost use Rattle.script_run.specs.private.RunClauses.{shown_beside};
 ghost use Rattle.script_run.specs.private.RunViews.{IsDelivered};
 
-use crate::buffer::Buffer;
 use outside::{Files, Sink};
-use script_steps::{LineStop, Script, answer_line};
-use std::alloc::{AllocError, Global};
+use script_steps::{LineStop, Script, answer_line, answer_unwritten};
+use std::alloc::Global;
 use std::sync::ledger::Ledger;
 use steps::Steps;
 
@@ -45,7 +44,7 @@ pub(crate) fn deliver<F: Files, W: Sink, L: Ledger>(
     }
 }
 
-/// Answers a line, and puts its answer to the refusals where it is one.
+/// Answers a line, and puts its answer to the refusals where it is one. Any other answer is dropped, and no report is made.
 fn keep_answer<F: Files, L: Ledger>(
     alloc: Global,
     refusals: &mut Vec<u8>,
@@ -67,25 +66,12 @@ fn keep_answer<F: Files, L: Ledger>(
     ensures never { result ≢ Err LineStop.Write }
     ensures kept { result ≢ Err LineStop.File → F.failed files.new ≡ F.failed files.old }
 {
-    let mut buffer = Buffer::new(alloc);
-    match answer_line(alloc, script, line, files, &mut buffer, steps) {
-        Ok(wrong) => {
-            put_refusal(refusals, wrong.is_some(), buffer.bytes())?;
-            Ok(wrong)
+    match answer_unwritten(alloc, script, line, files, steps) {
+        Ok(Some(refusal)) => {
+            refusals.extend_from_slice(&refusal.text)?;
+            Ok(Some(refusal.wrong))
         }
-        Err(LineStop::File) => Err(LineStop::File),
-        Err(LineStop::Write) => Err(LineStop::Memory),
-        Err(LineStop::Memory) => Err(LineStop::Memory),
+        Ok(None) => Ok(None),
+        Err(stop) => Err(stop),
     }
-}
-
-/// Puts an answer to the refusals where it is one.
-fn put_refusal(refusals: &mut Vec<u8>, refused: bool, answer: &[u8]) -> Result<(), AllocError>
-    ensures { OnOk result (refusals.new.items
-        ≡ refusals.old.items ++ (if refused then answer.now else [])) }
-{
-    if refused {
-        refusals.extend_from_slice(answer)?;
-    }
-    Ok(())
 }

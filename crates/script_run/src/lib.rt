@@ -1,7 +1,6 @@
 //! The lines of a script, taken from a source turn by turn and answered one by one.
 #![tactic(auto)]
 
-mod buffer;
 mod deliver;
 mod memory;
 mod reading;

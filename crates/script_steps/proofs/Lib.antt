@@ -20,3 +20,4 @@ mod YearLemmas
 mod CostLemmas
 mod SoundLemmas
 mod KeepLemmas
+mod UnwrittenLemmas

@@ -24,6 +24,7 @@ use Rattle.script_steps.specs.Standings.{Standing, Doing, StaysOrSteps}
 use Rattle.script_steps.specs.Shown.{OutsideShown}
 use Rattle.script_steps.specs.Stops.{stop_of}
 use Rattle.script_steps.specs.StepClauses.{ToldStep, IsAnswered, IsBroken}
+use Rattle.script_steps.specs.Steps.{IsStep}
 use Rattle.script_steps.specs.private.StepViews.{IsMade, IsLost, IsWant, ToldDoes, IsUnmade, IsLineRefusal, IsWritten}
 use Rattle.script_steps.specs.private.StepViews.{IsFrontWritten, IsRefusalWritten, IsRefusalUnwritten}
 use Rattle.script_steps.specs.private.PlanViews.{IsUnjudged}
@@ -94,6 +95,34 @@ module _ (told : Option FileMap) (Step : Doing) (what : Asked) (before now : ℕ
   pub wanting : {T : Type 0} (r : Result T LineStop) → r ≡ Err stops.Memory → IsWant Step before now
       → ForErr r (IsUnmade told Step what before now failed)
   wanting r is w = for_err (IsUnmade told Step what before now failed) r stops.Memory is w
+
+-- ---- a line that is refused
+
+module _ (line : List ℕ) where
+  -- the refusal is what the line says, and want of memory is not
+  says_refused : (why : LineFault) (answer : Answer) → IsLineFaultOrMemory line why → IsLineRefusal why answer
+      → LineSays line (Err why) × (answer ≡ refusal (line_detail why))
+  says_refused (faults.Memory e) answer h is = absurd is
+  says_refused faults.LineLong answer h is = (h, is)
+  says_refused faults.Command answer h is = (h, is)
+  says_refused faults.Words answer h is = (h, is)
+  says_refused faults.Employee answer h is = (h, is)
+  says_refused faults.Month answer h is = (h, is)
+  says_refused faults.Day answer h is = (h, is)
+  says_refused (faults.Value word) answer h is = (h, is)
+  says_refused (faults.Twice name) answer h is = (h, is)
+
+  -- the line's step leaves all as it is
+  pub fault_step : (from : Standing) (files : FileMap) (why : LineFault) (answer : Answer) → IsLineFaultOrMemory line why
+      → IsLineRefusal why answer → IsStep files from line from answer
+  fault_step from files why answer h is =
+      let s = says_refused why answer h is in
+      record { said = Err why; says = s.0; does = (refl, s.1) }
+
+  -- and counts nothing
+  pub fault_steps : (why : LineFault) (answer : Answer) → IsLineFaultOrMemory line why → IsLineRefusal why answer
+      → answer.steps ≡ 0
+  fault_steps why answer h is = ap (λ (a : Answer). a.steps) (says_refused why answer h is).1
 
 -- ---- what a line does that asks for this
 
@@ -183,29 +212,14 @@ module _ (old new : OutsideShown) (from : Standing) (line : List ℕ) where
 
   -- ---- a line that is refused
 
-  -- the refusal is what the line says, and want of memory is not
-  says_refused : (why : LineFault) (answer : Answer) → IsLineFaultOrMemory line why → IsLineRefusal why answer
-      → LineSays line (Err why) × (answer ≡ refusal (line_detail why))
-  says_refused (faults.Memory e) answer h is = absurd is
-  says_refused faults.LineLong answer h is = (h, is)
-  says_refused faults.Command answer h is = (h, is)
-  says_refused faults.Words answer h is = (h, is)
-  says_refused faults.Employee answer h is = (h, is)
-  says_refused faults.Month answer h is = (h, is)
-  says_refused faults.Day answer h is = (h, is)
-  says_refused (faults.Value word) answer h is = (h, is)
-  says_refused (faults.Twice name) answer h is = (h, is)
-
   refused_step : (why : LineFault) (answer : Answer) → IsLineFaultOrMemory line why → IsLineRefusal why answer
       → ToldStep old.files from line from answer
-  refused_step why answer h is files e =
-      let s = says_refused why answer h is in
-      record { said = Err why; says = s.0; does = (refl, s.1) }
+  refused_step why answer h is files e = fault_step line from files why answer h is
 
   none : (why : LineFault) (answer : Answer) → IsLineFaultOrMemory line why → IsLineRefusal why answer
       → new.steps ≡ old.steps → new.steps ≡ old.steps + answer.steps
   none why answer h is still =
-      let steps : answer.steps ≡ 0 = ap (λ (a : Answer). a.steps) (says_refused why answer h is).1 in
+      let steps = fault_steps line why answer h is in
       omega (arith, steps, still)
 
   pub fault_answered : (why : LineFault) (refused : Bool) → new.steps ≡ old.steps → IsLineFaultOrMemory line why
@@ -255,19 +269,19 @@ report_made told from steps =
     made_still (ToldDoes told from (Ok asked.report)) from steps (report_answer from) (λ files e. (refl, refl)) refl
 
 -- the sink isn't touched where no reply was made
-pub unmade_broken : (old new : OutsideShown) (from to : Standing) (what : Asked) (stop : LineStop)
+pub unmade_broken : {T : Type 0} (old new : OutsideShown) (from to : Standing) (what : Asked) (stop : LineStop)
     → new.written ≡ old.written → (stop ≡ stops.File → to ≡ from)
     → StaysOrSteps (ToldDoes old.files from (Ok what)) from to
     → IsUnmade old.files (ToldDoes old.files from (Ok what)) what old.steps new.steps new.failed stop
-    → (result : Result (Option (String Global)) LineStop) → result ≡ Err stop → (line : List ℕ) → IsLine line what
+    → (result : Result T LineStop) → result ≡ Err stop → (line : List ℕ) → IsLine line what
     → ForErr result (λ stop. IsBroken old new from to line stop)
 unmade_broken old new from to what stop same still left u result is line says =
     for_err (λ s. IsBroken old new from to line s) result stop is
     (unmade old new from line what says to stop same still left u)
 
 -- out of memory before anything was done
-pub want_broken : (old : OutsideShown) (from : Standing) (line : List ℕ)
-    (result : Result (Option (String Global)) LineStop) → result ≡ Err stops.Memory
+pub want_broken : {T : Type 0} (old : OutsideShown) (from : Standing) (line : List ℕ)
+    (result : Result T LineStop) → result ≡ Err stops.Memory
     → ForErr result (λ stop. IsBroken old old from from line stop)
 want_broken old from line result is =
     for_err (λ s. IsBroken old old from from line s) result stops.Memory is

@@ -8,6 +8,7 @@ pub mod LineSteps
 pub mod Steps
 pub mod Stops
 pub mod StepClauses
+pub mod Unwritten
 pub mod Promises
 pub mod StepLaws
 pub mod GoingOn

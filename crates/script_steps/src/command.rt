@@ -62,7 +62,7 @@ pub(crate) fn answer_command<F: Files, W: Sink, L: Ledger>(
 }
 
 /// Does what a line asks for that isn't the report.
-fn make_reply<F: Files, L: Ledger>(
+pub(crate) fn make_reply<F: Files, L: Ledger>(
     alloc: Global,
     script: &mut Script,
     command: Command,

@@ -16,8 +16,10 @@ mod step;
 mod stop;
 mod trace;
 mod trial;
+mod unwritten;
 
 pub use going_on::going_on_laws;
 pub use script::Script;
 pub use step::{answer_line, step_laws};
 pub use stop::LineStop;
+pub use unwritten::{Refusal, answer_unwritten};
