@@ -5,3 +5,10 @@ pub mod RunLemmas
 pub mod TextLemmas
 pub mod ConstantLemmas
 pub mod LawLemmas
+pub mod Lacking
+pub mod Holding
+pub mod Closing
+pub mod Following
+pub mod TrailLemmas
+pub mod TrackLemmas
+pub mod Counted

@@ -26,18 +26,22 @@ left ts i x lt e = ap spots_of (drop_more ts i x lt) ∙ ap (λ y. spot_of y ∷
 limited : (l : Line) (s : State) (b : Bool) → has_limits l ≡ true → nat_lt most_levels (level_of s) ≡ b → is_over l s ≡ b
 limited l s b h e = ap (λ c. c && nat_lt most_levels (level_of s)) h ∙ e
 
-pub goes : (l : Line) (f : Refusal) (s r : State) (ts : List Placed) (i : ℕ) (x : Placed) → has_limits l ≡ true → i < length ts → x ≡ get_or ts i x
-    → step s (spot_of x).token ≡ Some r → nat_lt most_levels (level_of r) ≡ false → run l f s (spots_of (drop i ts)) ≡ run l f r (spots_of (drop (i + 1) ts))
-goes l f s r ts i x h lt e go o = ap (run l f s) (left ts i x lt e) ∙ stepped l f s r (spot_of x) (spots_of (drop (i + 1) ts)) go (limited l r false h o)
+pub goes_over : (l : Line) (f : Refusal) (s r : State) (ts rest : List Placed) (x : Placed) → has_limits l ≡ true → ts ≡ x ∷ rest
+    → step s (spot_of x).token ≡ Some r → nat_lt most_levels (level_of r) ≡ false → run l f s (spots_of ts) ≡ run l f r (spots_of rest)
+goes_over l f s r ts rest x h e go o = ap (λ us. run l f s (spots_of us)) e ∙ stepped l f s r (spot_of x) (spots_of rest) go (limited l r false h o)
 
 -- where levels don't count
 pub goes_on : (l : Line) (f : Refusal) (s r : State) (ts : List Placed) (i : ℕ) (x : Placed) → has_limits l ≡ false → i < length ts → x ≡ get_or ts i x
     → step s (spot_of x).token ≡ Some r → run l f s (spots_of (drop i ts)) ≡ run l f r (spots_of (drop (i + 1) ts))
 goes_on l f s r ts i x h lt e go = ap (run l f s) (left ts i x lt e) ∙ stepped l f s r (spot_of x) (spots_of (drop (i + 1) ts)) go (no_limits l r h)
 
-pub sinks : (l : Line) (f : Refusal) (s r : State) (ts : List Placed) (i : ℕ) (x : Placed) → has_limits l ≡ true → i < length ts → x ≡ get_or ts i x
-    → step s (spot_of x).token ≡ Some r → nat_lt most_levels (level_of r) ≡ true → run l f s (spots_of (drop i ts)) ≡ Err (refusal deep x.at)
-sinks l f s r ts i x h lt e go o = ap (run l f s) (left ts i x lt e) ∙ too_deep l f s r (spot_of x) (spots_of (drop (i + 1) ts)) go (limited l r true h o)
+pub sinks : (l : Line) (f : Refusal) (s r : State) (ts rest : List Placed) (x : Placed) → has_limits l ≡ true → ts ≡ x ∷ rest
+    → step s (spot_of x).token ≡ Some r → nat_lt most_levels (level_of r) ≡ true → run l f s (spots_of ts) ≡ Err (refusal deep x.at)
+sinks l f s r ts rest x h e go o = ap (λ us. run l f s (spots_of us)) e ∙ too_deep l f s r (spot_of x) (spots_of rest) go (limited l r true h o)
+
+pub sticks_over : (l : Line) (f : Refusal) (s : State) (ts rest : List Placed) (x : Placed) → ts ≡ x ∷ rest
+    → step s (spot_of x).token ≡ None → run l f s (spots_of ts) ≡ Err (refusal (cause_of s (spot_of x).token) x.at)
+sticks_over l f s ts rest x e go = ap (λ us. run l f s (spots_of us)) e ∙ stuck l f s (spot_of x) (spots_of rest) go
 
 pub sticks : (l : Line) (f : Refusal) (s : State) (ts : List Placed) (i : ℕ) (x : Placed) → i < length ts → x ≡ get_or ts i x
     → step s (spot_of x).token ≡ None → run l f s (spots_of (drop i ts)) ≡ Err (refusal (cause_of s (spot_of x).token) x.at)

@@ -4,4 +4,6 @@ pub mod Frames
 pub mod Stacks
 pub mod States
 pub mod Steps
+pub mod Traces
+pub mod Tracks
 pub mod Views

@@ -1,6 +1,6 @@
 //! What waits for the expression that is read.
 ghost use Rattle.std.specs.Prelude.{◌≡◌, ◌+◌, ◌∷◌, ◌≤◌, List};
-ghost use Rattle.expr_grammar.specs.Machine.{Frame as Waiting, level, binds};
+ghost use Rattle.expr_grammar.specs.Machine.{Frame as Waiting, level, binds, closes};
 ghost use Rattle.pap_expr.specs.private.Frames.{frame_of};
 
 use pap_tree::levels::{self, level_of_operator};
@@ -43,6 +43,16 @@ impl Frame {
             Frame::Right(operator, _) => Some(level_of_operator(*operator)),
             Frame::No(_, _) => Some(levels::CONDITIONAL),
             _ => None,
+        }
+    }
+
+    /// Whether the frame takes what a token ends that binds so tightly.
+    pub(crate) fn binds_so(&self, tightness: u8) -> bool
+        ensures { result ≡ closes tightness (binds (frame_of self.now)) }
+    {
+        match self.binds() {
+            Some(own) => own >= tightness,
+            None => false,
         }
     }
 

@@ -13,9 +13,12 @@ mod reading;
 mod stack;
 mod state;
 mod steps;
+mod stretch;
+mod trail;
 mod words;
 
 pub use constants::parse_constant;
-pub use expression::{parse_assign, parse_expr};
+pub use expression::{parse_assign, parse_assign_placed, parse_expr, parse_expr_placed};
 pub use fault::ExprFault;
 pub use laws::{each_text_has_one_answer, each_text_has_one_tree, spellings_are_read_back};
+pub use stretch::Stretch;

@@ -1,6 +1,6 @@
 //! The reading of a list of tokens.
 
-ghost use Rattle.std.specs.Prelude.{◌≡◌, ◌≤◌, IfOk, IfErr, true, nat_lt, option_map};
+ghost use Rattle.std.specs.Prelude.{◌≡◌, ◌≤◌, List, ◌++◌, IfOk, IfErr, true, nat_lt, option_map};
 ghost use Rattle.pap_tree.specs.Term.{term_of};
 ghost use Rattle.pap_tree.specs.Grammar.{Line};
 ghost use Rattle.pap_tree.specs.Limits.{most_levels};
@@ -10,11 +10,13 @@ ghost use Rattle.expr_grammar.specs.Machine as machine;
 ghost use Rattle.expr_grammar.specs.Machine.{Want, level, level_of};
 ghost use Rattle.expr_grammar.specs.Run.{run};
 ghost use Rattle.pap_expr.specs.declared.fault.ExprFault.TheVariants.{Memory};
+ghost use Rattle.pap_expr.specs.NodeBytes.{PlacedToken, placed_tokens};
 ghost use Rattle.pap_expr.specs.private.Stacks.{stack_of};
 ghost use Rattle.pap_expr.specs.private.Views.{refusal_of, method_view};
 ghost use Rattle.pap_expr.specs.private.States.{state_of};
 ghost use Rattle.pap_expr.specs.private.Steps.{Steps};
 ghost use Rattle.pap_expr.specs.private.Answers.{meaning_of, base_of, Answers};
+ghost use Rattle.pap_expr.specs.private.Traces.{IsBefore, Traces};
 
 use crate::fault::ExprFault;
 use crate::frame::Frame;
@@ -22,6 +24,7 @@ use crate::reader::Reader;
 use crate::stack::Stack;
 use crate::state::{Rounded, Scaled, State};
 use crate::steps::{after_class, after_new, comma, due, member, mode, mode_word, refused, scale};
+use crate::trail::Trail;
 use crate::words::Method;
 use expr_tokens::{Placed, Sign};
 use pap_tree::{Expr, MOST_LEVELS, Name, Unary};
@@ -37,27 +40,34 @@ pub(crate) enum Reading {
 }
 
 /// Reads an expression: that of an assignment, where its target is given. `end` is what is wrong where the tokens end
-/// too early.
+/// too early. The trail follows, where it is kept.
 pub(crate) fn read(
     alloc: Global,
     target: Option<Name>,
     tokens: &[Placed],
     end: ExprFault,
+    trail: &mut Trail<'_>,
 ) -> Result<Reading, ExprFault>
-    ensures { (l : Line) → has_limits l ≡ true →
+    ensures answer { (l : Line) → has_limits l ≡ true →
         Answers (run l (refusal_of end) (Want (base_of target)) (spots_of tokens.now)) result }
+    ensures places { (before : List PlacedToken) → IsBefore target before → Traces trail.old
+        (before ++ placed_tokens trail.old.text.now (spots_of tokens.now)) trail.new result }
 {
     let mut reader = Reader {
         alloc,
         stack: base(alloc, target)?,
     };
     let mut state = State::Operand;
-    for found in tokens {
+    let mut left = tokens;
+    while let Some((found, rest)) = left.split_first() {
+        trail.follow(&state, &reader.stack, found, rest)?;
         state = reader.step(state, found)?;
         if reader.is_over(&state) {
             return Err(ExprFault::Deep { at: found.at });
         }
+        left = rest;
     }
+    trail.finish(&state, &reader.stack)?;
     match reader.finish(state)? {
         Some(reading) => Ok(reading),
         None => Err(end),

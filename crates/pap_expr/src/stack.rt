@@ -35,6 +35,13 @@ impl Stack {
         self.levels
     }
 
+    /// The frames, the innermost last.
+    pub(crate) fn frames(&self) -> &[Frame]
+        ensures { result.now ≡ self.now.frames.items }
+    {
+        &self.frames
+    }
+
     /// The innermost frame.
     pub(crate) fn top(&self) -> Option<&Frame>
         ensures { MatchOption result (frames_of self.now.frames.items ≡ [])
@@ -80,4 +87,12 @@ impl Stack {
         }
         self.pop()
     }
+}
+
+/// The innermost of some frames.
+pub(crate) fn innermost(frames: &[Frame]) -> Option<&Frame>
+    ensures { MatchOption result (frames_of frames.now ≡ [])
+        (λ f. (k : List Waiting) × (frames_of frames.now ≡ frame_of f.now ∷ k)) }
+{
+    frames.last()
 }

@@ -1,4 +1,4 @@
-use Rattle.std.proofs.Common.{List, sym, subst}
+use Rattle.std.proofs.Common.{List, sym, ap, subst}
 use Rattle.std.proofs.lemmas.Result.{err_from_is_err_and}
 use Rattle.pap_tree.specs.Term.{term_of}
 use Rattle.pap_tree.specs.Tokens.{Tokens}
@@ -7,22 +7,24 @@ use Rattle.expr_tokens.specs.declared.token.Placed.{Placed}
 use Rattle.expr_tokens.specs.Spots.{spots_of}
 use Rattle.expr_grammar.specs.Lines.{an_assignment}
 use Rattle.pap_expr.proofs.TextLemmas.{accepted, wrong, no_test, assignment_nodes, assignment_scales}
-use Rattle.pap_expr.proofs.expression.parse_assign.Goals as goal
+use Rattle.pap_expr.specs.declared.reading.Reading.TheVariants as readings
+use Rattle.pap_expr.proofs.TrailLemmas.{have_bytes}
+use Rattle.pap_expr.proofs.expression.assign.Goals as goal
 
-pub returns-in_err-target-clause-fault : goal.returns-in_err-target-clause-fault
-returns-in_err-target-clause-fault c =
+pub returns-in_err-read-clause-fault : goal.returns-in_err-read-clause-fault
+returns-in_err-read-clause-fault c =
     let text = c.args.text.now in
     let ts = spots_of c.deref.result.now in
     let tokens = subst (λ (ps : List Placed). Tokens 0 text (spots_of ps)) (sym c.deref.ensures.value) c.in_ok-tokens.ensures in
-    let p = err_from_is_err_and c.from_residual-in_err-target.result c.from_residual-in_err-target.ensures.1 in
-    rw (p.1, p.2) (wrong (Assignment) an_assignment text ts c.in_err-target.field-0.0 tokens c.in_err-target.ensures)
+    let p = err_from_is_err_and c.from_residual-in_err-read.result c.from_residual-in_err-read.ensures.1 in
+    rw (p.1, p.2) (wrong (Assignment) an_assignment text ts c.in_err-read.field-0.0 tokens c.in_err-read.ensures.answer)
 
 pub returns-in_default-clause-fault : goal.returns-in_default-clause-fault
 returns-in_default-clause-fault c =
     let text = c.args.text.now in
     let ts = spots_of c.deref.result.now in
     let tokens = subst (λ (ps : List Placed). Tokens 0 text (spots_of ps)) (sym c.deref.ensures.value) c.in_ok-tokens.ensures in
-    let e = rw c.in_default.is at c.in_ok-target.ensures in
+    let e = rw c.in_default.is at c.in_ok-read.ensures.answer in
     absurd (no_test text (term_of c.in_default.field-0) (accepted (Assignment) an_assignment text ts (tree (term_of c.in_default.field-0)) tokens e))
 
 pub returns-clause-tree : goal.returns-clause-tree
@@ -30,18 +32,27 @@ returns-clause-tree c =
     let text = c.args.text.now in
     let ts = spots_of c.deref.result.now in
     let tokens = subst (λ (ps : List Placed). Tokens 0 text (spots_of ps)) (sym c.deref.ensures.value) c.in_ok-tokens.ensures in
-    accepted (Assignment) an_assignment text ts (assignment c.in-Assignment.target (term_of c.in-Assignment.expr)) tokens (rw c.in-Assignment.is at c.in_ok-target.ensures)
+    accepted (Assignment) an_assignment text ts (assignment c.in-Assignment.target (term_of c.in-Assignment.expr)) tokens (rw c.in-Assignment.is at c.in_ok-read.ensures.answer)
 
 pub returns-clause-nodes : goal.returns-clause-nodes
 returns-clause-nodes c =
     let text = c.args.text.now in
     let ts = spots_of c.deref.result.now in
     let tokens = subst (λ (ps : List Placed). Tokens 0 text (spots_of ps)) (sym c.deref.ensures.value) c.in_ok-tokens.ensures in
-    assignment_nodes text c.in-Assignment.target (term_of c.in-Assignment.expr) (accepted (Assignment) an_assignment text ts (assignment c.in-Assignment.target (term_of c.in-Assignment.expr)) tokens (rw c.in-Assignment.is at c.in_ok-target.ensures))
+    assignment_nodes text c.in-Assignment.target (term_of c.in-Assignment.expr) (accepted (Assignment) an_assignment text ts (assignment c.in-Assignment.target (term_of c.in-Assignment.expr)) tokens (rw c.in-Assignment.is at c.in_ok-read.ensures.answer))
 
 pub returns-clause-scales : goal.returns-clause-scales
 returns-clause-scales c =
     let text = c.args.text.now in
     let ts = spots_of c.deref.result.now in
     let tokens = subst (λ (ps : List Placed). Tokens 0 text (spots_of ps)) (sym c.deref.ensures.value) c.in_ok-tokens.ensures in
-    assignment_scales text c.in-Assignment.target (term_of c.in-Assignment.expr) (accepted (Assignment) an_assignment text ts (assignment c.in-Assignment.target (term_of c.in-Assignment.expr)) tokens (rw c.in-Assignment.is at c.in_ok-target.ensures))
+    assignment_scales text c.in-Assignment.target (term_of c.in-Assignment.expr) (accepted (Assignment) an_assignment text ts (assignment c.in-Assignment.target (term_of c.in-Assignment.expr)) tokens (rw c.in-Assignment.is at c.in_ok-read.ensures.answer))
+
+pub returns-clause-places : goal.returns-clause-places
+returns-clause-places c = λ kept.
+    let text = c.args.text.now in
+    let ts = spots_of c.deref.result.now in
+    let tokens = subst (λ (ps : List Placed). Tokens 0 text (spots_of ps)) (sym c.deref.ensures.value) c.in_ok-tokens.ensures in
+    let new = c.new-trail in
+    have_bytes text ts new.result c.answer.new.trail c.args.is_kept (readings.Assignment c.in-Assignment.target c.in-Assignment.expr) _ tokens new.ensures.text new.ensures.track new.ensures.kept (sym (ap (λ v. v.items) c.nodes.ensures))
+    (rw c.in-Assignment.is at c.in_ok-read.ensures.places) kept
