@@ -1,5 +1,7 @@
 //! The texts of expressions: what they stand for, by its canonical spelling.
-use pap_expr::{parse_assign, parse_constant, parse_expr};
+use pap_expr::{
+    Stretch, parse_assign, parse_assign_placed, parse_constant, parse_expr, parse_expr_placed,
+};
 use pap_tree::{Expr, Literal, print_expr};
 use std::str::from_utf8;
 use std::test::Fail;
@@ -84,6 +86,58 @@ fn assigned(asked: &str, text: &mut String) -> Result<(), Fail> {
 #[test]
 fn assignments_name_their_target(rt: HostRuntime) -> Result<(), Fail> {
     all_rows(rt.alloc(), ASSIGNMENTS, assigned)
+}
+
+/// Tests with the bytes of their nodes, by number.
+const NODES: &str = r#" ( A + B ) * C => A | B | A + B | C | ( A + B ) * C
+((a)) => a
+-5.add(x)  => -5 | x | -5.add(x)
+- (5) => 5 | - (5)
+T[ T[1] ].negate( ) => 1 | T[1] | T[ T[1] ] | T[ T[1] ].negate( )
+a ? b : c ? d : e => a | b | c | d | e | c ? d : e | a ? b : c ? d : e
+!a && b || c => a | !a | b | !a && b | c | !a && b || c
+BigDecimal.valueOf(1, 1) => 1 | BigDecimal.valueOf(1, 1)
+new BigDecimal( "1.5" ).max(BigDecimal . ZERO) => new BigDecimal( "1.5" ) | BigDecimal . ZERO | new BigDecimal( "1.5" ).max(BigDecimal . ZERO)
+A.divide((B), 2, RoundingMode.UP) > C => A | B | A.divide((B), 2, RoundingMode.UP) | C | A.divide((B), 2, RoundingMode.UP) > C
+A.setScale(0 , BigDecimal.ROUND_UP) => A | A.setScale(0 , BigDecimal.ROUND_UP)
+a - b - c => a | b | a - b | c | a - b - c
+new BigDecimal(-(0.4)) => 0.4 | -(0.4) | new BigDecimal(-(0.4))"#;
+
+/// Writes the bytes of nodes.
+fn write_nodes(asked: &str, nodes: &[Stretch], text: &mut String) -> Result<(), Fail> {
+    for node in nodes {
+        if !text.is_empty() {
+            text.push_str(" | ")?;
+        }
+        text.push_str(asked.get(node.first..node.end).unwrap_or(""))?;
+    }
+    Ok(())
+}
+
+/// Writes the bytes of a test's nodes.
+fn placed(asked: &str, text: &mut String) -> Result<(), Fail> {
+    let (_, nodes) = parse_expr_placed(*text.allocator(), asked.as_bytes())?;
+    write_nodes(asked, &nodes, text)
+}
+
+#[test]
+fn nodes_of_tests_have_their_bytes(rt: HostRuntime) -> Result<(), Fail> {
+    all_rows(rt.alloc(), NODES, placed)
+}
+
+/// Assignments with the bytes of the nodes of their values.
+const VALUES: &str = r#"X= RE4.subtract (FREI) => RE4 | FREI | RE4.subtract (FREI)
+ X = (A) ;  => A"#;
+
+/// Writes the bytes of the nodes of an assignment's value.
+fn placed_value(asked: &str, text: &mut String) -> Result<(), Fail> {
+    let (_, _, nodes) = parse_assign_placed(*text.allocator(), asked.as_bytes())?;
+    write_nodes(asked, &nodes, text)
+}
+
+#[test]
+fn nodes_of_values_have_their_bytes(rt: HostRuntime) -> Result<(), Fail> {
+    all_rows(rt.alloc(), VALUES, placed_value)
 }
 
 /// Declared literals, and what they are.
