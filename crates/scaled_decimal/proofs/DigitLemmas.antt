@@ -1,9 +1,10 @@
 -- Digits, and the numbers that they spell as they come.
-use Rattle.std.proofs.Common.{◌≡◌, ℕ, zero, suc, ◌+◌, ◌*◌, ◌<◌, ◌≤◌, List, [], ◌∷◌, ◌++◌, length, take, get_or, add-one, refl, arith}
+use Rattle.std.proofs.Common.{◌≡◌, ℕ, zero, suc, ◌+◌, ◌*◌, ◌<◌, ◌≤◌, List, [], ◌∷◌, ◌++◌, length, take, drop, get_or, add-one, refl, sym, ap, ◌∙◌, arith}
 use Rattle.std.specs.Int.{IsInRange}
 use Rattle.std.specs.Char.{digit_value}
 use Rattle.std.specs.Str.Parse.{AllDigits, digits_value_after}
 use Rattle.std.proofs.lemmas.Str.Parse.{digit_from_value}
+use Rattle.std.proofs.lemmas.List.{take-append-drop}
 
 digit_value_at : (bs : List ℕ) (i : ℕ) → AllDigits 10 bs → i < length bs → digit_value (get_or bs i 0) < 10
 digit_value_at [] i h l = absurd (omega arith)
@@ -38,3 +39,12 @@ front_le (b ∷ bs) (suc i) n = front_le bs i (n * 10 + digit_value b)
 pub digits_value_after-append : (xs ys : List ℕ) (n : ℕ) → digits_value_after 10 n (xs ++ ys) ≡ digits_value_after 10 (digits_value_after 10 n xs) ys
 digits_value_after-append [] ys n = refl
 digits_value_after-append (x ∷ xs) ys n = digits_value_after-append xs ys (n * 10 + digit_value x)
+
+-- from a place on there are digits, which go on from what those before it spell
+pub digits_behind : (bs : List ℕ) (i : ℕ) → AllDigits 10 bs → AllDigits 10 (drop i bs)
+digits_behind bs zero h = h
+digits_behind [] (suc i) h = h
+digits_behind (b ∷ bs) (suc i) h = digits_behind bs i h.1
+
+pub goes_on : (bs : List ℕ) (i n : ℕ) → digits_value_after 10 (digits_value_after 10 n (take i bs)) (drop i bs) ≡ digits_value_after 10 n bs
+goes_on bs i n = sym (digits_value_after-append (take i bs) (drop i bs) n) ∙ ap (λ ds. digits_value_after 10 n ds) (take-append-drop i bs)

@@ -12,6 +12,9 @@ use crate::limits::{LIMIT, MOST_PLACES};
 use std::error::Error;
 use std::fmt;
 
+/// A number below this can take one more digit in 64 bits.
+const SHORT: u64 = 1_000_000_000_000_000_000;
+
 /// Why a text is no kept decimal.
 #[derive(Clone, Copy, Debug, PartialEq, Eq)]
 pub enum NumFault {
@@ -162,8 +165,28 @@ fn digit_count(text: &[u8]) -> usize
     text.len()
 }
 
-/// The number that digits spell after those of `start`, if it is within the limit.
+/// The number that digits spell after those of `start`, if it is within the limit. It is worked out in 64 bits as long as
+/// these hold it, since that is several times faster.
 fn value_after(start: u128, digits: &[u8]) -> Option<u128>
+    requires start { start ≤ limit }
+    requires digits { AllDigits 10 digits.now }
+    ensures { let number = digits_value_after 10 start digits.now in
+        SomeIff result (number ≤ limit) number }
+{
+    let Ok(mut number) = u64::try_from(start) else {
+        return long_value_after(start, digits);
+    };
+    for (at, digit) in digits.iter().enumerate() {
+        if number >= SHORT {
+            return long_value_after(u128::from(number), &digits[at..]);
+        }
+        number = number * 10 + u64::from(*digit - b'0');
+    }
+    Some(u128::from(number))
+}
+
+/// The same, in 128 bits.
+fn long_value_after(start: u128, digits: &[u8]) -> Option<u128>
     requires start { start ≤ limit }
     requires digits { AllDigits 10 digits.now }
     ensures { let number = digits_value_after 10 start digits.now in

@@ -31,22 +31,34 @@ pub fn round_div(n: i128, d: i128, mode: Mode) -> i128
     ensures { Rounds mode n d result }
 {
     if d < 0 {
-        round_by_positive(-n, -d, mode)
-    } else {
-        round_by_positive(n, d, mode)
+        return round_to_neighbour(-n, -d, mode);
     }
+    round_by_positive(n, d, mode)
 }
 
+/// The same, where `d` is positive. A quotient is most often cut; what the other ways of rounding do besides has a function of its
+/// own, so that this one is short.
 fn round_by_positive(n: i128, d: i128, mode: Mode) -> i128
     requires positive { pos 0 <ℤ d }
     requires dividend { IsWithinLimit n }
     requires divisor { IsWithinLimit d }
     ensures { RoundsPositive mode n d result }
 {
-    let towards_zero = cut_quotient(n, d);
     if let Mode::Down = mode {
-        return towards_zero;
+        return cut_quotient(n, d);
     }
+    round_to_neighbour(n, d, mode)
+}
+
+/// The same, by what is left when the quotient is cut.
+#[inline(never)]
+fn round_to_neighbour(n: i128, d: i128, mode: Mode) -> i128
+    requires positive { pos 0 <ℤ d }
+    requires dividend { IsWithinLimit n }
+    requires divisor { IsWithinLimit d }
+    ensures { RoundsPositive mode n d result }
+{
+    let towards_zero = cut_quotient(n, d);
     let rest = (n - towards_zero * d).unsigned_abs();
     let odd = towards_zero.unsigned_abs() % 2 == 1;
     if rest == 0 {
@@ -70,8 +82,18 @@ fn cut_quotient(n: i128, d: i128) -> i128
 {
     match (i64::try_from(n), i64::try_from(d)) {
         (Ok(short), Ok(divisor)) => i128::from(short / divisor),
-        _ => n / d,
+        _ => long_quotient(n, d),
     }
+}
+
+/// The same, in 128 bits.
+#[inline(never)]
+fn long_quotient(n: i128, d: i128) -> i128
+    requires positive { pos 0 <ℤ d }
+    requires dividend { IsWithinLimit n }
+    ensures { result ≡ int_div n d }
+{
+    n / d
 }
 
 /// Whether a quotient that was cut towards zero, with something left, moves one away from zero.

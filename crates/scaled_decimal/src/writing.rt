@@ -104,8 +104,37 @@ impl BackText {
         }
     }
 
-    /// Puts the digits of a whole number in front.
+    /// Puts the digits of a whole number in front. One that 64 bits hold is divided as such, which is several times faster.
     fn put_whole(&mut self, n: u128)
+        requires { length self.old ≤ longest_places }
+        ensures text { self.new ≡ whole_text n ++ self.old }
+        ensures room { length self.new < longest_text }
+    {
+        match u64::try_from(n) {
+            Ok(short) => self.put_short_whole(short),
+            Err(_) => self.put_long_whole(n),
+        }
+    }
+
+    /// The same, in 64 bits.
+    fn put_short_whole(&mut self, n: u64)
+        requires { length self.old ≤ longest_places }
+        ensures text { self.new ≡ whole_text n ++ self.old }
+        ensures room { length self.new < longest_text }
+    {
+        if n == 0 {
+            self.put(b'0');
+            return;
+        }
+        let mut left = n;
+        while left > 0 {
+            self.put(b'0' + (left % 10) as u8);
+            left /= 10;
+        }
+    }
+
+    /// The same, in 128 bits.
+    fn put_long_whole(&mut self, n: u128)
         requires { length self.old ≤ longest_places }
         ensures text { self.new ≡ whole_text n ++ self.old }
         ensures room { length self.new < longest_text }
@@ -139,6 +168,36 @@ impl BackText {
 
     /// Puts the last digits of a number in front, and gives the number before them.
     fn put_places(&mut self, n: u128, places: u8) -> u128
+        requires empty { self.old ≡ [] }
+        requires places { places ≤ most_places }
+        ensures text { self.new ≡ last_digits places n }
+        ensures whole { result ≡ n / 10 ^ places }
+        ensures room { length self.new ≡ places }
+    {
+        match u64::try_from(n) {
+            Ok(short) => u128::from(self.put_short_places(short, places)),
+            Err(_) => self.put_long_places(n, places),
+        }
+    }
+
+    /// The same, in 64 bits.
+    fn put_short_places(&mut self, n: u64, places: u8) -> u64
+        requires empty { self.old ≡ [] }
+        requires places { places ≤ most_places }
+        ensures text { self.new ≡ last_digits places n }
+        ensures whole { result ≡ n / 10 ^ places }
+        ensures room { length self.new ≡ places }
+    {
+        let mut front = n;
+        for _ in 0..places {
+            self.put(b'0' + (front % 10) as u8);
+            front /= 10;
+        }
+        front
+    }
+
+    /// The same, in 128 bits.
+    fn put_long_places(&mut self, n: u128, places: u8) -> u128
         requires empty { self.old ≡ [] }
         requires places { places ≤ most_places }
         ensures text { self.new ≡ last_digits places n }

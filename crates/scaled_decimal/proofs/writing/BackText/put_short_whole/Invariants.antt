@@ -1,7 +1,7 @@
 use Rattle.std.proofs.Common.{◌≡◌, ◌+◌, ◌≤◌, ◌++◌, length, map}
 use Rattle.std.specs.Int.Digits.{digits_of}
 use Rattle.scaled_decimal.specs.PlainTexts.{digit_byte, whole_text}
-use Rattle.scaled_decimal.proofs.writing.BackText.put_whole.Given as goal
+use Rattle.scaled_decimal.proofs.writing.BackText.put_short_whole.Given as goal
 
 abbrev pub invariant-loop-left : goal.invariant-loop-left
 invariant-loop-left l = record {

@@ -1,6 +1,6 @@
 use Rattle.std.proofs.Common.{◌≡◌, ◌/◌, ◌^◌}
 use Rattle.scaled_decimal.specs.PlainTexts.{last_digits}
-use Rattle.scaled_decimal.proofs.writing.BackText.put_places.Given as goal
+use Rattle.scaled_decimal.proofs.writing.BackText.put_short_places.Given as goal
 
 abbrev pub invariant-loop : goal.invariant-loop
 invariant-loop l = record {

@@ -1,6 +1,6 @@
 use Rattle.std.proofs.Common.{arith, ◌∙◌}
 use Rattle.scaled_decimal.proofs.PlainLemmas.{length-last_digits, last_digits_more, quotient_more}
-use Rattle.scaled_decimal.proofs.writing.BackText.put_places.Goals as goal
+use Rattle.scaled_decimal.proofs.writing.BackText.put_long_places.Goals as goal
 
 pub put-requires : goal.put-requires
 put-requires c = rw c.loop.invariant.text (omega (arith, length-last_digits c.loop.counter c.args.n))

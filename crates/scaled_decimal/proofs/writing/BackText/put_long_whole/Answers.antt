@@ -1,7 +1,7 @@
 use Rattle.std.proofs.Common.{arith, length, ap, sym, ◌++◌}
 use Rattle.std.proofs.lemmas.Int.Digits.{length-digits_of_step}
 use Rattle.scaled_decimal.proofs.PlainLemmas.{whole_some, whole_more, few_digits}
-use Rattle.scaled_decimal.proofs.writing.BackText.put_whole.Goals as goal
+use Rattle.scaled_decimal.proofs.writing.BackText.put_long_whole.Goals as goal
 
 pub loop-left-init : goal.loop-left-init
 loop-left-init c =
