@@ -1,5 +1,5 @@
 -- `fits` tells which values fit a limit; those that fit the limit of a `double` are kept at three places.
-use Rattle.std.proofs.Common.{◌≡◌, ◌↔◌, ℕ, suc, ◌-◌, ◌^◌, ◌<◌, ◌≤◌, ℤ, ◌*ℤ◌, ◌≤ℤ◌, ◌<ℤ◌, unsigned_abs, Bool, false, not, List, ◌∷◌, length, get_or, drop, Some, refl, sym, ap, ◌∙◌, arith, subst}
+use Rattle.std.proofs.Common.{◌≡◌, ℕ, ◌-◌, ◌^◌, ◌≤◌, ℤ, ◌*ℤ◌, ◌≤ℤ◌, ◌<ℤ◌, unsigned_abs, false, not, ap, ◌∙◌, arith, subst}
 use Rattle.std.specs.Prelude.{IsTrue, nat_le}
 use Rattle.std.specs.Bool.{Decides}
 use Rattle.std.specs.Ordering.{int_cmp, is_gt, MatchOrdering}
@@ -7,19 +7,15 @@ use Rattle.std.specs.declared.cmp.Ordering.{Ordering}
 use Rattle.std.specs.declared.cmp.Ordering.TheVariants.{Less, Equal, Greater}
 use Rattle.std.specs.Cmp.{int_ranks}
 use Rattle.std.proofs.lemmas.Bool.{true≢false, not-true, not_from_false, leb-true, le-leb}
-use Rattle.std.proofs.lemmas.Bool.Decides.{Decides-and, Decides-like, same_from_decides}
+use Rattle.std.proofs.lemmas.Bool.Decides.{Decides-and, Decides-like}
 use Rattle.std.proofs.lemmas.Int.{ints}
-use Rattle.std.proofs.Math.Seq.{drop-cons}
 use Rattle.scaled_decimal.specs.Decimals.{Decimal, numerator_at, scale_of, greater_scale, ten_to, value_order}
 use Rattle.scaled_decimal.specs.Limits.{IsWithinLimit, limit as most}
 use Rattle.scaled_decimal.proofs.Laws.{le_times, aligned_order}
 use Rattle.pap_types.specs.Kinds.{has_few_places}
 use Rattle.limits_file.specs.declared.limits.InputLimit.{InputLimit}
 use Rattle.limits_file.specs.Limits.{Fits, IsAtMost, IsFactorLimit}
-use Rattle.limits_file.specs.declared.slots.Slot.{Slot}
-use Rattle.payroll_records.specs.declared.values.NamedValue.{NamedValue}
-use Rattle.carry_bindings.specs.Filling.{FitsIsTold, fits, outside, value_of}
-use Rattle.carry_bindings.specs.declared.carried.Earlier.{Earlier}
+use Rattle.carry_bindings.specs.Filling.{FitsIsTold, fits}
 use Rattle.carry_bindings.proofs.AmountLemmas.{longer}
 
 -- ---- what is told
@@ -39,18 +35,6 @@ told limit v =
     (λ h. record { places = h.0.0; above = h.0.1; below = h.1 })
     (λ h. ((h.places, h.above), h.below))
     (Decides-and _ _ (Decides-and _ _ places above) below)
-
--- a test of the same is `fits`
-pub same_test : (limit : InputLimit) (v : Decimal) (b : Bool) → (IsTrue b ↔ Fits limit v) → b ≡ fits limit v
-same_test limit v b h = same_from_decides b (fits limit v) h (told limit v)
-
--- the inputs from a place on, where the first has a value that doesn't fit
-pub first_outside : (slots : List Slot) (values : List NamedValue) (earlier : List Earlier) (i : ℕ) (s : Slot)
-    (v : Decimal) → i < length slots → s ≡ get_or slots i s → value_of values earlier s ≡ Some v → fits s.limit v ≡ false →
-    outside (drop i slots) values earlier ≡ Some s.name
-first_outside slots values earlier i s v l is value unfit =
-    let from = drop-cons slots i s l ∙ ap (λ x. x ∷ drop (suc i) slots) (sym is) in
-    ap (λ l. outside l values earlier) from ∙ rw (value, unfit) refl
 
 -- ---- a `double`
 

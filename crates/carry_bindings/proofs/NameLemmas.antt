@@ -15,7 +15,7 @@ use Rattle.std.specs.Cmp.Lexicographic.{nat_list_cmp_total}
 use Rattle.scaled_decimal.specs.Decimals.{Decimal}
 use Rattle.rising_lists.specs.Keyed.{AreAbove, IsRising}
 use Rattle.payroll_records.proofs.Laws.{at_place, place_within}
-use Rattle.carry_bindings.specs.private.Views.{marked, places_of, taken}
+use Rattle.carry_bindings.specs.private.Views.{marked, taken}
 use Rattle.std.proofs.Math.Seq.{take-suc}
 use Rattle.limits_file.specs.declared.slots.Slot.{Slot}
 use Rattle.payroll_records.specs.NamedValues.{name_cmp, name_of, place_at}
@@ -102,11 +102,6 @@ none_taken [] = refl
 none_taken (v ∷ vs) = ap (λ t. false ∷ t) (none_taken vs)
 
 -- ---- at a place
-
-pub place_for : (slots : List Slot) (values : List NamedValue) (i : ℕ) (s : Slot) → i < length slots → s ≡ get_or slots i s → get_or (places_of slots values) i None ≡ place_at values s.name
-place_for [] values i s l is = absurd (omega arith)
-place_for (t ∷ slots) values zero s l is = ap (λ (x : Slot). place_at values x.name) (sym is)
-place_for (t ∷ slots) values (suc i) s l is = place_for slots values i s (omega arith) is
 
 pub place_fits : (values : List NamedValue) (name : List ℕ) (n : ℕ) → n ≡ length values → IfSome (place_at values name) (λ i. i < n)
 place_fits values name n e = by (place_at values name) refl

@@ -1,24 +1,27 @@
 //! The inputs of a run.
-ghost use Rattle.std.specs.Prelude.{◌≡◌, ◌≤◌, IfOk, None, length};
+ghost use Rattle.std.specs.Prelude.{◌≡◌, ◌≤◌, ◌∷◌, List, IfOk, OnOk, length};
 ghost use Rattle.std.specs.Bool.{OnFalse};
 ghost use Rattle.std.specs.List.{AllByRecursion};
 ghost use Rattle.carry_bindings.specs.Conditions.{AreBounded, KeepsFactorLimit};
 ghost use Rattle.carry_bindings.specs.Limits.{most_runs};
-ghost use Rattle.carry_bindings.specs.Filling.{FitsIsTold, ReadsNothing, filled_by, first_of, given, has_carry, inputs, missing, outside};
+ghost use Rattle.carry_bindings.specs.Filling.{FitsIsTold, ReadsNothing, filled_by, given, has_carry};
 ghost use Rattle.carry_bindings.specs.Filling.{value_of, waits};
 ghost use Rattle.carry_bindings.specs.private.OutputViews.{AreAlike};
-ghost use Rattle.carry_bindings.specs.private.Views.{places_of};
+ghost use Rattle.carry_bindings.specs.private.Views.{IsFound, IsSofar};
 ghost use Rattle.limits_file.specs.Limits.{Fits};
+ghost use Rattle.limits_file.specs.declared.slots.Slot.{Slot as Input};
+ghost use Rattle.payroll_records.specs.declared.values.NamedValue.{NamedValue};
+ghost use Rattle.carry_bindings.specs.declared.carried.Earlier.{Earlier as Gone};
 ghost use Rattle.pap_types.specs.Scopes.{kept_as};
 ghost use Rattle.payroll_records.specs.NamedValues.{place_at};
 
 use crate::carried::{Earlier, carried};
-use crate::names::{places, unknown};
+use crate::names::{mark, none_taken, unknown};
 use crate::outputs::alike;
 use limits_file::{Items, Slot, Spec};
 use pap_tree::{Kind, Name};
 use pap_types::at_factor_scale;
-use payroll_records::{Day, Record, Values};
+use payroll_records::{Day, Guess, Record, Values};
 use scaled_decimal::Dec;
 use std::alloc::{AllocError, Global};
 
@@ -47,6 +50,42 @@ pub enum Filled {
     State(Blocked),
 }
 
+/// What the inputs of a run are found to be, one after another.
+#[derive(Drop)]
+pub(crate) struct Found {
+    /// Of each value of the record, whether some input takes it.
+    taken: Vec<bool>,
+    /// The first input without a value.
+    missing: Option<Name>,
+    /// The first input whose value doesn't fit its range.
+    outside: Option<Name>,
+    /// The inputs in declared order, where each has a value that fits its range.
+    inputs: Vec<Dec>,
+}
+
+impl Found {
+    /// Puts one more input, whose value this is.
+    fn put(&mut self, slot: &Slot, value: Option<Dec>) -> Result<(), AllocError>
+        requires { KeepsFactorLimit slot.now }
+        ensures taken { self.new.taken.items ≡ self.old.taken.items }
+        ensures more { OnOk result ((values : List NamedValue) (earlier : List Gone)
+            (slots rest : List Input) → value_of values earlier slot.now ≡ value
+            → IsSofar values earlier slots (slot.now ∷ rest) self.old
+            → IsSofar values earlier slots rest self.new) }
+    {
+        let Some(value) = value else {
+            self.missing = self.missing.or(Some(slot.name));
+            return Ok(());
+        };
+        if !slot.limit.fits(value) {
+            self.outside = self.outside.or(Some(slot.name));
+            return Ok(());
+        }
+        self.inputs.push(kept_as(slot, value))?;
+        Ok(())
+    }
+}
+
 /// The inputs of a record's run. `earlier` are the employee's earlier runs of the calendar year, in order of day; each of
 /// their outputs keeps the bound of outputs. The first answer that applies is given: `Waits`, `Unknown`, `Missing`,
 /// `Range`, and otherwise the inputs, those of type `double` with three places.
@@ -65,14 +104,17 @@ pub fn fill(
     if let Some(day) = waits(slots, earlier) {
         return Ok(Filled::State(Blocked::Waits(day)));
     }
-    let places = places(alloc, slots, &item.values)?;
-    if let Some(name) = unknown(alloc, slots, places.as_slice(), &item.values)? {
+    let found = found_of(alloc, slots, &item.values, earlier)?;
+    if let Some(name) = unknown(found.taken.as_slice(), slots, &item.values) {
         return Ok(Filled::State(Blocked::Unknown(name)));
     }
-    if let Some(name) = missing(slots, places.as_slice(), &item.values, earlier) {
+    if let Some(name) = found.missing {
         return Ok(Filled::State(Blocked::Missing(name)));
     }
-    inputs(alloc, slots, places.as_slice(), &item.values, earlier)
+    if let Some(name) = found.outside {
+        return Ok(Filled::State(Blocked::Range(name)));
+    }
+    Ok(Filled::Inputs(Items::from_vec(found.inputs)))
 }
 
 /// Whether some input carries. Where none does, a run reads nothing of the earlier ones of its year.
@@ -87,7 +129,7 @@ pub fn reads_earlier(spec: &Spec) -> bool
 fn waits(slots: &[Slot], earlier: &[Earlier]) -> Option<Day>
     ensures { result ≡ waits slots.now earlier.now }
 {
-    if !has_carry(slots) {
+    if earlier.is_empty() || !has_carry(slots) {
         return None;
     }
     for e in earlier {
@@ -142,24 +184,6 @@ fn value_of(
     }
 }
 
-/// The first input without a value.
-fn missing(
-    slots: &[Slot],
-    places: &[Option<usize>],
-    values: &Values,
-    earlier: &[Earlier],
-) -> Option<Name>
-    requires places { places.now ≡ places_of slots.now values.now }
-    ensures { result ≡ missing slots.now values.now earlier.now }
-{
-    for (at, slot) in slots.iter().enumerate() {
-        if slot.carry.is_none() && given(values, places[at], slot).is_none() {
-            return Some(slot.name);
-        }
-    }
-    None
-}
-
 /// The value as a variable of the input's type keeps it.
 fn kept_as(slot: &Slot, value: Dec) -> Dec
     requires suits { KeepsFactorLimit slot.now }
@@ -172,37 +196,38 @@ fn kept_as(slot: &Slot, value: Dec) -> Dec
     }
 }
 
-/// The inputs in declared order, or the first whose value doesn't fit its range.
-fn inputs(
+/// Goes over the inputs once, in declared order.
+fn found_of(
     alloc: Global,
     slots: &[Slot],
-    places: &[Option<usize>],
     values: &Values,
     earlier: &[Earlier],
-) -> Result<Filled, AllocError>
-    requires places { places.now ≡ places_of slots.now values.now }
+) -> Result<Found, AllocError>
     requires few { length earlier.now ≤ most_runs }
     requires bounded { AllByRecursion (λ e. AreBounded e.outputs) earlier.now }
     requires doubles { AllByRecursion KeepsFactorLimit slots.now }
-    ensures { let state = outside slots.now values.now earlier.now in
-        IfOk result (λ f. f ≡ first_of None None None state (inputs slots.now values.now earlier.now)) }
+    ensures { IfOk result (IsFound slots.now values.now earlier.now) }
 {
-    let alike = if many_carry(slots) {
+    let alike = if !earlier.is_empty() && many_carry(slots) {
         alike(alloc, earlier)?
     } else {
         Vec::new(alloc)
     };
-    let mut inputs = Vec::with_capacity(alloc, slots.len())?;
-    for (at, slot) in slots.iter().enumerate() {
-        let Some(value) = value_of(values, places[at], earlier, alike.as_slice(), slot) else {
-            continue;
-        };
-        if !slot.limit.fits(value) {
-            return Ok(Filled::State(Blocked::Range(slot.name)));
-        }
-        inputs.push(kept_as(slot, value))?;
+    let mut found = Found {
+        taken: none_taken(alloc, values)?,
+        missing: None,
+        outside: None,
+        inputs: Vec::with_capacity(alloc, slots.len())?,
+    };
+    let mut guess = Guess { place: 0, gap: 0 };
+    for slot in slots {
+        let (place, next) = values.look_up(&slot.name, guess);
+        guess = next;
+        mark(&mut found.taken, place, slot);
+        let value = value_of(values, place, earlier, alike.as_slice(), slot);
+        found.put(slot, value)?;
     }
-    Ok(Filled::Inputs(Items::from_vec(inputs)))
+    Ok(found)
 }
 
 /// A law, with nothing to run: the definitions' test is true exactly where a value fits its range.

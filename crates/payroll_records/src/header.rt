@@ -10,6 +10,7 @@ ghost use Rattle.payroll_records.specs.Tables.{IsHeader, Text, field_of};
 ghost use Rattle.payroll_records.specs.private.TableViews.{AddsColumn, AreColumns, BeginsHeader, column_name};
 
 use crate::MOST_VALUES;
+use crate::name_order::followers;
 use csv::ByteRecord;
 use pap_tree::Name;
 use std::alloc::{AllocError, Global};
@@ -32,6 +33,19 @@ pub(crate) struct Header {
     pub(crate) names: Vec<Name>,
     /// The columns in order of their names.
     pub(crate) columns: Vec<Column>,
+}
+
+impl Header {
+    /// For each column in order of names, where the one stands in that order that the header has after it.
+    pub(crate) fn followers(&self, alloc: Global) -> Result<Vec<usize>, AllocError> {
+        let mut places = vec![in alloc; 0; self.columns.len()]?;
+        for (at, column) in self.columns.iter().enumerate() {
+            if let Some(place) = places.get_mut(column.place) {
+                *place = at;
+            }
+        }
+        followers(alloc, places.as_slice())
+    }
 }
 
 /// The columns that a first row names. `None` where it is no header.

@@ -23,5 +23,5 @@ pub use month::Month;
 pub use name_order::NameOrder;
 pub use record::{Key, Record};
 pub use table::{TableFault, each_table_has_one_answer, read_table};
-pub use values::{InsertFault, NamedValue, Values};
+pub use values::{Guess, InsertFault, NamedValue, Values};
 pub use when::{When, when_laws};

@@ -22,6 +22,8 @@ pub struct NameOrder {
     names: RcSlice<Name>,
     /// Where the name of each word stands among them. The words are tried there; nothing else depends on it.
     places: Vec<usize>,
+    /// For each name where that of the next word stands.
+    after: RcSlice<usize>,
 }
 
 impl Model for NameOrder {
@@ -47,7 +49,13 @@ impl NameOrder {
     {
         let (values, names) = values.with_list()?;
         let places = places_of(alloc, names.as_slice(), words)?;
-        Ok((values, NameOrder { names, places }))
+        let after = RcSlice::from_vec(followers(alloc, places.as_slice())?)?;
+        let order = NameOrder {
+            names,
+            places,
+            after: after.clone()?,
+        };
+        Ok((values.given_in(after), order))
     }
 
     /// The values of value words that have the same names in the same order, and share the list of the names. `None` also where a word
@@ -69,7 +77,9 @@ impl NameOrder {
             }
             at += 1;
         }
-        Ok(Some(Values::of_list(self.names.clone()?, numbers)))
+        let after = self.after.clone()?;
+        let values = Values::of_list(self.names.clone()?, numbers);
+        Ok(Some(values.given_in(after)))
     }
 }
 
@@ -120,6 +130,19 @@ fn behind_name<'a>(word: &'a [u8], name: &Name) -> Option<&'a [u8]>
         [b'=', number @ ..] => Some(number),
         _ => None,
     }
+}
+
+/// For each place the one that comes after it in a list of places, and 0 after the last.
+pub(crate) fn followers(alloc: Global, places: &[usize]) -> Result<Vec<usize>, AllocError> {
+    let mut after = vec![in alloc; 0; places.len()]?;
+    let mut last = None;
+    for place in places {
+        if let Some(next) = last.and_then(|last| after.get_mut(last)) {
+            *next = *place;
+        }
+        last = Some(*place);
+    }
+    Ok(after)
 }
 
 /// Where the name of each word stands in a list of names.

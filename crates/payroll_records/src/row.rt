@@ -17,6 +17,7 @@ use csv::ByteRecord;
 use pap_tree::Name;
 use scaled_decimal::{Dec, read_dec};
 use std::alloc::{AllocError, Global};
+use std::rc::RcSlice;
 
 /// What is wrong with a row by itself.
 #[derive(Drop)]
@@ -135,9 +136,31 @@ fn is_filled(cell: &[u8]) -> bool
     !cell.is_empty()
 }
 
+/// The values that the cells of a row spell. Those of the first row are told in which order the header has their names, and the
+/// others share that.
+fn values_of(
+    alloc: Global,
+    header: &Header,
+    row: &ByteRecord,
+    before: Option<&Record>,
+) -> Result<Values, AllocError>
+    requires columns { AreColumns header.now.names.items header.now.columns.items }
+    requires few { length header.now.names.items ≤ most_values }
+    ensures supplied { IfOk result (λ values. (v : NamedValue) →
+        Contains values v ↔ Supplies header.now.names.items (fields_of row.now) v) }
+    ensures in_order { IfOk result AreValues }
+{
+    let values = values_in_cells(alloc, header, row, before)?;
+    if before.is_some() {
+        return Ok(values);
+    }
+    let after = RcSlice::from_vec(header.followers(alloc)?)?;
+    Ok(values.given_in(after))
+}
+
 /// The values that the cells of a row spell. They take no more memory than they need, and where the same cells are filled
 /// as in the row before, no list of names of their own.
-fn values_of(
+fn values_in_cells(
     alloc: Global,
     header: &Header,
     row: &ByteRecord,

@@ -34,6 +34,8 @@ pub struct Values {
     names: Names,
     /// The value of each name.
     numbers: Vec<Dec>,
+    /// For each name the place of the one that was given after it, where it is known. A name is only looked for there first.
+    after: Option<RcSlice<usize>>,
 }
 
 impl Model for Values {
@@ -47,6 +49,15 @@ impl Model for Values {
     ghost view = { λ v. named_numbers (listed v.names) v.numbers.items };
 
     ghost invariant = { λ v. IsKeptAs (listed v.names) v.numbers.items };
+}
+
+/// Where a name that is asked for after others is looked for first. Whatever it is, the answers are the same.
+#[derive(Clone, Copy)]
+pub struct Guess {
+    /// Where it may stand.
+    pub place: usize,
+    /// Where it would go, if it doesn't stand among the names.
+    pub gap: usize,
 }
 
 /// Why a value was not inserted.
@@ -71,6 +82,7 @@ impl Values {
         Values {
             names: Names::Own(Vec::new(alloc)),
             numbers: Vec::new(alloc),
+            after: None,
         }
     }
 
@@ -81,6 +93,7 @@ impl Values {
         Ok(Values {
             names: Names::Own(Vec::with_capacity(alloc, count)?),
             numbers: Vec::with_capacity(alloc, count)?,
+            after: None,
         })
     }
 
@@ -96,6 +109,7 @@ impl Values {
         let values = Values {
             names: Names::Own(names),
             numbers,
+            after: None,
         };
         values.sharing_names(before)
     }
@@ -104,9 +118,33 @@ impl Values {
     pub(crate) fn sharing_names(self, before: Option<&Values>) -> Result<Values, AllocError>
         ensures { IfOk result (λ values. values ≡ self) }
     {
-        let Values { names, numbers } = self;
+        let Values {
+            names,
+            numbers,
+            after,
+        } = self;
         let names = names.sharing(before.map(|values| &values.names))?;
-        Ok(Values { names, numbers })
+        let after = match before {
+            Some(values) => shared(&values.after)?,
+            None => after,
+        };
+        Ok(Values {
+            names,
+            numbers,
+            after,
+        })
+    }
+
+    /// The same values, whose names were given in the order in which each name stands at its place of `after` behind the one
+    /// before it.
+    pub(crate) fn given_in(self, after: RcSlice<usize>) -> Values
+        ensures { result ≡ self }
+    {
+        Values {
+            names: self.names,
+            numbers: self.numbers,
+            after: Some(after),
+        }
     }
 
     /// The same values, and the list of their names, which they share.
@@ -114,10 +152,19 @@ impl Values {
         ensures same { IfOk result (λ both. both.0 ≡ self) }
         ensures names { IfOk result (λ both. AreNames (rc_slice_items both.1)) }
     {
-        let Values { names, numbers } = self;
+        let Values {
+            names,
+            numbers,
+            after,
+        } = self;
         let list = names.into_list()?;
         let names = Names::Shared(list.clone()?);
-        Ok((Values { names, numbers }, list))
+        let values = Values {
+            names,
+            numbers,
+            after,
+        };
+        Ok((values, list))
     }
 
     /// The values of the names of a list, which they share, each at its place.
@@ -128,6 +175,7 @@ impl Values {
         Values {
             names: Names::Shared(list),
             numbers,
+            after: None,
         }
     }
 
@@ -163,17 +211,49 @@ impl Values {
         ensures place { result ≡ place_at self.now name.now }
         ensures few { IfSome result (λ at. at < most_values) }
     {
+        let guess = Guess {
+            place: guess,
+            gap: guess,
+        };
+        self.look_up(name, guess).0
+    }
+
+    /// Where the value of a name stands, and where the name that is asked for next may stand. Where names are asked for in the
+    /// order in which they were given, none is searched for.
+    pub fn look_up(&self, name: &Name, guess: Guess) -> (Option<usize>, Guess)
+        ensures place { result.0 ≡ place_at self.now name.now }
+        ensures few { IfSome result.0 (λ at. at < most_values) }
+    {
         let names = self.names.as_slice();
-        if stands_at(names, guess, name) {
-            return Some(guess);
+        if stands_at(names, guess.place, name) {
+            return (Some(guess.place), self.guess_after(guess.place, guess.gap));
         }
-        if goes_at(names, guess, name) {
-            return None;
+        if goes_at(names, guess.place, name) {
+            return (None, guess);
+        }
+        if goes_at(names, guess.gap, name) {
+            return (None, guess);
         }
         match names.binary_search(name) {
-            Ok(at) => Some(at),
-            Err(_) => None,
+            Ok(at) => (Some(at), self.guess_after(at, guess.gap)),
+            Err(at) => {
+                let next = Guess {
+                    place: guess.place,
+                    gap: at,
+                };
+                (None, next)
+            }
         }
+    }
+
+    /// Where the name that is asked for after the one at a place may stand: the name that was given after it, if that is known.
+    fn guess_after(&self, at: usize, gap: usize) -> Guess {
+        let known = self.after.as_ref().and_then(|after| after.get(at));
+        let place = match known {
+            Some(place) => *place,
+            None => at.wrapping_add(1),
+        };
+        Guess { place, gap }
     }
 
     /// Puts a value under its name. After a refusal the values are as before.
@@ -230,6 +310,14 @@ impl Values {
             return Err(names.len());
         }
         names.binary_search(name)
+    }
+}
+
+/// The same places, if they are known.
+fn shared(after: &Option<RcSlice<usize>>) -> Result<Option<RcSlice<usize>>, AllocError> {
+    match after {
+        Some(places) => Ok(Some(places.clone()?)),
+        None => Ok(None),
     }
 }
 

@@ -22,8 +22,8 @@ loop-word-preserved c =
       read = word_given c.args.words.now l.word-index _ _ _ c.loop-word-test.true few l.invariant.read (c.if-not-give.ensures.one refl);
     }
 
-pub of_list-requires : goal.of_list-requires
-of_list-requires c =
+pub of_list-values-requires : goal.of_list-values-requires
+of_list-values-requires c =
     let l = c.loop-word in
     let all = words_given c.args.words.now l.word-index c.as_slice-names.result.now l.numbers.items l.given l.invariant.read
     (omega (arith, c.loop-word-test.false)) (omega (arith, c.if-words-names.false)) l.invariant.long in
@@ -35,4 +35,4 @@ returns c =
     let all = words_given c.args.words.now l.word-index c.as_slice-names.result.now l.numbers.items l.given l.invariant.read
     (omega (arith, c.loop-word-test.false)) (omega (arith, c.if-words-names.false)) l.invariant.long in
     subst (AreValueWords (map (λ w. w.now) c.args.words.now))
-    (ap (λ names. named_numbers names l.numbers.items) (c.as_slice-names.ensures.value ∙ sym c.in_ok-clone.ensures.cases) ∙ sym c.of_list.ensures) all.read
+    (ap (λ names. named_numbers names l.numbers.items) (c.as_slice-names.ensures.value ∙ sym c.in_ok-clone.ensures.cases) ∙ sym c.of_list-values.ensures ∙ sym c.given_in.ensures) all.read

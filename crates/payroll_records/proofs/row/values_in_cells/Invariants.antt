@@ -2,7 +2,7 @@ use Rattle.std.proofs.Common.{◌≡◌, length}
 use Rattle.csv.specs.Records.{fields_of}
 use Rattle.payroll_records.specs.private.CellViews.{AreValuesOf}
 use Rattle.payroll_records.specs.KeptValues.{named_numbers}
-use Rattle.payroll_records.proofs.row.values_of.Given as goal
+use Rattle.payroll_records.proofs.row.values_in_cells.Given as goal
 
 abbrev pub invariant-loop-column : goal.invariant-loop-column
 invariant-loop-column l = record {
