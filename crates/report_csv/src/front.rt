@@ -1,28 +1,28 @@
 //! What the rows of a run begin with.
-ghost use Rattle.std.specs.Prelude.{◌≡◌, IfOk, OnOk, ◌∷◌, ◌++◌};
+ghost use Rattle.std.specs.Prelude.{◌≡◌, OnOk, ◌∷◌, ◌++◌};
 ghost use Rattle.std.specs.List.{join_with_byte};
 ghost use Rattle.report_csv.specs.Reports.{comma, plan_text, run_front};
 
 use crate::texts::{day_text, month_text};
 use payroll_records::{Day, Key};
-use std::alloc::{AllocError, Global};
+use std::alloc::AllocError;
 
-/// Room for the longest front with the state of a run that is ok: 32 bytes of an employee, a month, two days, `ok`, and the
-/// commas between them.
-const ROOM: usize = 65;
-
-/// The first four fields of each row of a run, with commas between: the employee, the month, the day, and the day of the
-/// plan, where a plan pays the run.
-pub(crate) fn front_text(alloc: Global, key: &Key, plan: Option<Day>) -> Result<Vec<u8>, AllocError>
-    ensures { IfOk result
-        (λ front. front.items ≡ join_with_byte comma (run_front key.now plan)) }
+/// Writes the first four fields of each row of a run over a text, with commas between: the employee, the month, the day, and the
+/// day of the plan, where a plan pays the run.
+pub(crate) fn write_front(
+    text: &mut Vec<u8>,
+    key: &Key,
+    plan: Option<Day>,
+) -> Result<(), AllocError>
+    ensures { OnOk result
+        (text.new.items ≡ join_with_byte comma (run_front key.now plan)) }
 {
-    let mut text = Vec::with_capacity(alloc, ROOM)?;
+    text.clear();
     text.extend_from_slice(key.employee.bytes())?;
-    put_field(&mut text, &month_text(key.day))?;
-    put_field(&mut text, &day_text(key.day))?;
-    put_plan(&mut text, plan)?;
-    Ok(text)
+    put_field(text, &month_text(key.day))?;
+    put_field(text, &day_text(key.day))?;
+    put_plan(text, plan)?;
+    Ok(())
 }
 
 /// Appends a comma and the day from which a plan holds, where there is a plan.

@@ -7,7 +7,7 @@ ghost use Rattle.report_csv.specs.ReportTexts.{months_text, report_text};
 ghost use Rattle.report_csv.specs.declared.report.ReportFault.TheVariants.{Memory, Write};
 
 use crate::rows::Rows;
-use crate::run::{with_header, with_run};
+use crate::run::{RowTexts, with_header, with_run};
 use outside::{Failed, Sink, put_all};
 use recalc_engine::{Book, Months};
 use std::alloc::{AllocError, Global};
@@ -68,8 +68,9 @@ fn write_months<W: Sink>(
     ensures cause { Caused Write (W.faults sink.old) (W.faults sink.new) result }
 {
     let mut rows = rows;
+    let mut texts = RowTexts::new(alloc);
     for row in months {
-        rows = with_run(alloc, rows, &row.key, row.plan, row.state)?;
+        rows = with_run(rows, &mut texts, &row.key, row.plan, row.state)?;
         if rows.least_length() >= PIECE {
             let room = put_rows(rows, sink)?;
             rows = Rows::in_room(alloc, room)?;

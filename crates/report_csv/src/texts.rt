@@ -1,5 +1,5 @@
 //! The texts of fields.
-ghost use Rattle.std.specs.Prelude.{◌≡◌, ◌<◌, IfOk, IfSome, OnOk};
+ghost use Rattle.std.specs.Prelude.{◌≡◌, ◌<◌, ◌++◌, IfSome, OnOk};
 ghost use Rattle.scaled_decimal.specs.Decimals.{decimal};
 ghost use Rattle.scaled_decimal.specs.PlainTexts.{plain_text};
 ghost use Rattle.payroll_records.specs.Days.{day_text, month_text, two_digits};
@@ -7,7 +7,7 @@ ghost use Rattle.payroll_records.specs.Days.{day_text, month_text, two_digits};
 use itoa::Buffer;
 use payroll_records::Day;
 use scaled_decimal::{Dec, write_dec};
-use std::alloc::{AllocError, Global};
+use std::alloc::AllocError;
 
 /// A day, `YYYY-MM-DD`.
 pub(crate) fn day_text(day: Day) -> [u8; 10]
@@ -36,14 +36,16 @@ fn two_digits(n: u16) -> [u8; 2]
     [b'0' + (n / 10) as u8, b'0' + (n % 10) as u8]
 }
 
-/// Writes a number in plain digits over a text.
-pub(crate) fn put_number(alloc: Global, value: Dec, text: &mut Vec<u8>) -> Result<(), AllocError>
-    ensures { OnOk result (text.new.items ≡ plain_text value) }
+/// Appends a number in plain digits to a text.
+pub(crate) fn put_number(value: Dec, text: &mut Vec<u8>) -> Result<(), AllocError>
+    ensures { OnOk result (text.new.items ≡ text.old.items ++ plain_text value) }
 {
-    text.clear();
     match whole_word(value) {
         Some(n) => text.extend_from_slice(Buffer::new().format(n).as_bytes()),
-        None => write_dec(alloc, value, text),
+        None => {
+            let alloc = *text.allocator();
+            write_dec(alloc, value, text)
+        }
     }
 }
 

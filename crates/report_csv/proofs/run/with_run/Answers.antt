@@ -11,5 +11,5 @@ returns c =
     let day = key.day in
     let rest = month_text day.year day.month ∷ day_text day.year day.month day.day ∷ plan_text c.args.plan ∷ [] in
     let state = c.args.state.now in
-    let same = ap (λ f. flat_map row_line (state_rows (f ∷ []) state)) c.in_ok-front.ensures ∙ state_joined key.employee rest state in
+    let same = ap (λ f. flat_map row_line (state_rows (f ∷ []) state)) c.in_ok-write_front.ensures ∙ state_joined key.employee rest state in
     subst (λ t. IfOk c.with_state.result (λ more. more ≡ c.args.rows ++ t)) same c.with_state.ensures

@@ -8,13 +8,13 @@ use Rattle.report_csv.proofs.run.with_state.Goals as goal
 
 pub returns-in-Blocked : goal.returns-in-Blocked
 returns-in-Blocked c =
-    let row = row_line (blocked_fields (c.args.front.items ∷ []) c.in-Blocked.why) in
+    let row = row_line (blocked_fields (c.args.texts.now.front.items ∷ []) c.in-Blocked.why) in
     let written = rw c.as_slice-in-Blocked.ensures.value at c.with_cause.ensures in
     rw c.in-Blocked.is (subst (λ t. IfOk c.with_cause.result (λ more. more ≡ c.args.rows ++ t)) (sym (append-nil row)) written)
 
 pub returns-in_ok-put_field-in-Done : goal.returns-in_ok-put_field-in-Done
 returns-in_ok-put_field-in-Done c =
     let outputs = c.in-Done.outputs in
-    let front = c.as_slice-in-Done.ensures.value ∙ c.in_ok-put_field-in-Done.ensures in
-    let lines = ap₂ (λ f vs. flat_map (output_line f) vs) front c.as_slice-in-Done-2.ensures ∙ outputs_lines c.args.front.items outputs in
+    let front = c.as_slice-front.ensures.value ∙ c.in_ok-put_field-in-Done.ensures in
+    let lines = ap₂ (λ f vs. flat_map (output_line f) vs) front c.as_slice-in-Done.ensures ∙ outputs_lines c.args.texts.now.front.items outputs in
     rw c.in-Done.is (subst (λ t. IfOk c.with_outputs.result (λ more. more ≡ c.args.rows ++ t)) lines c.with_outputs.ensures)
