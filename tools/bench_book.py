@@ -7,8 +7,9 @@ lines of a script, which a plain Java program (tools/BenchBook.java) carries out
 `plan` line with another text of the same flowchart, and beside it the Java program's first and best of ten rounds of all runs, whose inputs
 it has read before.
 
-Where valgrind is there, a table follows for each flowchart: how many instructions a run takes of a script of `add` lines with its report, by
-subject, as its callgrind counts them; what the same script takes without the runs is taken away. Times on a shared machine differ by half
+Where valgrind is there, a table follows for each flowchart: how many instructions a run takes, by subject, as its callgrind counts them; of a
+script of `add` lines with its report, of a `load` with its report, of a report alone, and of a `plan` line that has all runs run anew. What
+the same lines take where there are no runs is taken away. Times on a shared machine differ by half
 from one hour to the next, which counts of instructions don't."""
 import collections
 import random
@@ -94,15 +95,21 @@ def another_text(plan, folder):
     return f"{folder}/another"
 
 
+def table_file(values, employees, folder):
+    """A table of the runs."""
+    name = f"{folder}/table.csv"
+    names = list(values(random.Random(7)))
+    with open(name, "w") as file:
+        file.write(",".join(["employee", "month", "day", *names]) + "\n")
+        for employee, month, day, given in records(employees, values):
+            file.write(",".join([employee, month, day, *[str(given[name]) for name in names]]) + "\n")
+    return name
+
+
 def edits(plan, values, employees, folder):
     """Milliseconds of each kind of edit."""
     rows = list(records(employees, values))
-    names = list(rows[0][3])
-    table = f"{folder}/table.csv"
-    with open(table, "w") as file:
-        file.write(",".join(["employee", "month", "day", *names]) + "\n")
-        for employee, month, day, given in rows:
-            file.write(",".join([employee, month, day, *[str(given[name]) for name in names]]) + "\n")
+    table = table_file(values, employees, folder)
     session = Session()
     session.plan("2026-01-01", plan)
     told = {"load": session.answer(f"load {table}")[1], "report": session.answer("report")[1]}
@@ -143,12 +150,12 @@ def subject_of(function):
     return "copies and comparisons" if COPIES.match(function) else "the rest"
 
 
-def counted(script, folder):
+def counted(lines, folder):
     """The instructions of a script, by subject."""
     kept = f"{folder}/callgrind.out"
-    with open(script) as lines:
-        words = ["valgrind", "--tool=callgrind", f"--callgrind-out-file={kept}", PROGRAM, "run"]
-        subprocess.run(words, stdin=lines, stdout=subprocess.DEVNULL, stderr=subprocess.DEVNULL, check=True)
+    words = ["valgrind", "--tool=callgrind", f"--callgrind-out-file={kept}", PROGRAM, "run"]
+    script = "".join(f"{line}\n" for line in lines).encode()
+    subprocess.run(words, input=script, stdout=subprocess.DEVNULL, stderr=subprocess.DEVNULL, check=True)
     words = ["callgrind_annotate", "--threshold=100", "--auto=no", kept]
     told = subprocess.run(words, stdout=subprocess.PIPE, stderr=subprocess.DEVNULL, check=True, encoding="utf-8").stdout
     instructions = collections.Counter()
@@ -158,12 +165,33 @@ def counted(script, folder):
     return instructions
 
 
+def added(lines_for, folder):
+    """The instructions that the lines for so many employees take more than those for none, by subject."""
+    whole = counted(lines_for(COUNTED), folder)
+    whole.subtract(counted(lines_for(0), folder))
+    return whole
+
+
 def instructions_a_run(plan, values, folder):
-    """The instructions that a run takes of a script, by subject, the most first."""
-    whole = counted(script_file(plan, values, COUNTED, folder), folder)
-    whole.subtract(counted(script_file(plan, values, 0, folder), folder))
-    a_run = {subject: taken / (12 * COUNTED) for subject, taken in whole.most_common()}
-    return {"all": sum(a_run.values()), **a_run}
+    """The instructions that a run takes of some scripts, each by subject, the most first."""
+    first = f"plan 2026-01-01 {plan}.xml {plan}.toml"
+    other = another_text(plan, folder)
+    again = f"plan 2026-01-01 {other}.xml {other}.toml"
+
+    def adds(employees):
+        return [first, *[line_of("add", *row) for row in records(employees, values)], "report"]
+
+    def loaded(*after):
+        return lambda employees: [first, f"load {table_file(values, employees, folder)}", *after]
+
+    loads = added(loaded(), folder)
+    scripts = {"adds and report": added(adds, folder), "load and report": added(loaded("report"), folder)}
+    scripts |= {name: added(loaded(line), folder) for name, line in [("report", "report"), ("all runs anew", again)]}
+    for name in ["report", "all runs anew"]:
+        scripts[name].subtract(loads)
+    for name, taken in scripts.items():
+        a_run = {subject: number / (12 * COUNTED) for subject, number in taken.most_common()}
+        yield name, {"all": sum(a_run.values()), **{subject: number for subject, number in a_run.items() if number >= 1}}
 
 
 def java_classes(plan, folder):
@@ -200,9 +228,10 @@ def main():
                 for name, spent in {**whole_script(plan, values, employees, folder), **edits(plan, values, employees, folder)}.items():
                     print(f"    {name:20} {spent:9.2f} ms")
             if shutil.which("valgrind"):
-                print(f"{plan.rsplit('/', 1)[-1]}, instructions a run")
-                for subject, taken in instructions_a_run(plan, values, folder).items():
-                    print(f"    {subject:24} {taken:9.0f}")
+                for script, a_run in instructions_a_run(plan, values, folder):
+                    print(f"{plan.rsplit('/', 1)[-1]}, instructions a run, {script}")
+                    for subject, taken in a_run.items():
+                        print(f"    {subject:24} {taken:9.0f}")
 
 
 main()
