@@ -4,7 +4,8 @@ use pap_tree::{Declared, PlanText};
 use std::hash::{BuildHasher, DefaultHasher, Hash};
 
 /// What makes the hashers of a flowchart's names. Each begins with a state into which all its declared names and methods
-/// were written. So a file can't choose names that collide: with each name that it changes, the hashes of all change.
+/// were written, so that with each name that a file changes the hashes of all change. That is meant to keep a file from
+/// choosing names that collide; no clause says so.
 #[derive(Clone, Copy)]
 pub(crate) struct NameHashes {
     first: DefaultHasher,
