@@ -1,0 +1,4 @@
+pub mod VariableValues
+pub mod StepLines
+pub mod RunTexts
+pub mod private

@@ -1,0 +1,2 @@
+pub mod TellingViews
+pub mod TextViews
