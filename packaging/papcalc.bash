@@ -40,8 +40,14 @@ _pap_author() {
     case $command:$COMP_CWORD in
         chart:2 | ranges:2) _papcalc_files xml "$word" ;;
         chart:3) _papcalc_files toml "$word" ;;
-        text:2) COMPREPLY=($(compgen -W 'compare' -- "$word")) ;;
-        text:3 | text:4) _papcalc_files xml "$word" ;;
+        text:2) COMPREPLY=($(compgen -W 'compare trace' -- "$word")) ;;
+        text:3) _papcalc_files xml "$word" ;;
+        text:4)
+            case ${COMP_WORDS[2]} in
+                compare) _papcalc_files xml "$word" ;;
+                trace) _papcalc_files toml "$word" ;;
+            esac ;;
+        text:*) if [ "${COMP_WORDS[2]}" = trace ]; then _papcalc_inputs "${COMP_WORDS[3]}" "$word"; fi ;;
     esac
 }
 

@@ -1,9 +1,9 @@
 #!/usr/bin/env python3
-"""What README.md and docs/ show is what comes: run_shown.py [--write] PROGRAM, from the top of the repository.
+"""What README.md and docs/ show is what comes: run_shown.py [--write] PROGRAM [AUTHOR], from the top of the repository.
 
 A block that begins with ```console has commands behind `$ ` with what they write on standard output; its commands run one after the
 other, and those of one document in one scratch copy of the examples, with the program as build/papcalc, and papcalc and papledger on the
-path. A block that begins with ```session has lines of one script behind `> ` with their answers. Each is compared byte for byte. With
+path, and AUTHOR as pap_author; where there is none, blocks that call it are left as they are. A block that begins with ```session has lines of one script behind `> ` with their answers. Each is compared byte for byte. With
 --write the documents get what comes."""
 import glob
 import os
@@ -13,13 +13,15 @@ import sys
 import tempfile
 
 
-def scratch_copy(program):
-    """A folder with the examples, the tools and the program."""
+def scratch_copy(program, author):
+    """A folder with the examples, the tools and the programs."""
     folder = tempfile.mkdtemp(prefix="papcalc-shown-")
     for name in ["examples", "tools", "docs", "clients"]:
         shutil.copytree(name, f"{folder}/{name}", ignore=shutil.ignore_patterns("__pycache__"))
     os.mkdir(f"{folder}/build")
     os.symlink(program, f"{folder}/build/papcalc")
+    if author:
+        os.symlink(author, f"{folder}/build/pap_author")
     os.symlink(f"{folder}/clients/python/papledger", f"{folder}/build/papledger")
     return folder
 
@@ -60,9 +62,14 @@ def session(lines, folder):
 KINDS = {"```console": console, "```session": session}
 
 
-def document_as_run(name, program):
-    """The document with what comes in place of what it shows, and the number of its blocks."""
-    folder = scratch_copy(program)
+def calls_author(lines):
+    """Whether a command of the block calls pap_author."""
+    return any(line.startswith("$ ") and "pap_author" in line for line in lines)
+
+
+def document_as_run(name, program, author):
+    """The document with what comes in place of what it shows, and the number of its blocks that were run."""
+    folder = scratch_copy(program, author)
     lines = open(name, encoding="utf-8").read().split("\n")
     shown, count, at = [], 0, 0
     while at < len(lines):
@@ -70,17 +77,20 @@ def document_as_run(name, program):
         kind, at = KINDS.get(lines[at].strip()), at + 1
         if kind:
             end = lines.index("```", at)
-            shown += kind(lines[at:end], folder)
-            at, count = end, count + 1
+            block, at = lines[at:end], end
+            if author or not calls_author(block):
+                block, count = kind(block, folder), count + 1
+            shown += block
     shutil.rmtree(folder)
     return lines, shown, count
 
 
 def main(words):
-    program = os.path.abspath(words[-1])
+    program, author = ([os.path.abspath(word) for word in words if word != "--write"] + [None])[:2]
+    author = author if author and os.access(author, os.X_OK) else None
     failed = count = 0
     for name in ["README.md", "CONTRIBUTING.md", *sorted(glob.glob("docs/*.md"))]:
-        lines, shown, blocks = document_as_run(name, program)
+        lines, shown, blocks = document_as_run(name, program, author)
         count += blocks
         if lines != shown:
             at = next((at for at, pair in enumerate(zip(lines, shown)) if pair[0] != pair[1]), min(len(lines), len(shown)))

@@ -1,5 +1,5 @@
 -- The answer on what is read of the files is that on their bytes.
-use Rattle.std.proofs.Common.{◌≡◌, ℕ, ◌<◌, List, [], take, inl, inr, sym, subst, arith}
+use Rattle.std.proofs.Common.{◌≡◌, ℕ, ◌<◌, List, [], take, inl, inr, refl, sym, ap, ◌∙◌, subst, arith}
 use Rattle.std.specs.Prelude.{Option, Some, None, Ok, Err}
 use Rattle.std.proofs.lemmas.List.{take_all}
 use Rattle.outside.specs.Told.{FileMap, IsFileFront, IsToldFront}
@@ -10,7 +10,7 @@ use Rattle.pap_plan.specs.declared.refusal.PlanRefusal.{PlanRefusal}
 use Rattle.pap_plan.specs.declared.refusal.PlanRefusal.TheVariants as refusals
 use Rattle.pap_plan.specs.Acceptance.{Meaning, IsAccepted, IsRefused}
 use Rattle.plan_answers.specs.Fronts.{AreFronts}
-use Rattle.plan_answers.proofs.Laws.{whole, front_there, answers_front, refusal_answer}
+use Rattle.plan_answers.proofs.Laws.{whole, front_there, answers_front, accepted_whole, refusal_answer}
 use Rattle.plan_notes.specs.Notes.{HasNotes}
 use Rattle.plain_words.specs.Places.{NamedText}
 use Rattle.plain_words.specs.Refusals.{TellsPlan}
@@ -18,13 +18,16 @@ use Rattle.flowchart_page.specs.Verdicts.{file_or_none, files_with, IsJudged}
 use Rattle.flowchart_methods.specs.declared.site.Site.{Site}
 use Rattle.flowchart_page.specs.Findings.{Finding, accepted, in_order, refused, IsFound}
 use Rattle.flowchart_page.specs.Pages.{ArePlanCaptions, Says, Shows, IsPage}
-use Rattle.author_cli.specs.Words.{chart, chart_within, ranges, compared}
+use Rattle.author_cli.specs.Words.{chart, chart_within, ranges, compared, traced}
 use Rattle.author_cli.specs.Compared.{IsUnreadable, IsCompared}
+use Rattle.author_cli.specs.Traced.{IsToldRun, IsBlockedRun, IsRefusedRun, IsTraced}
+use Rattle.payroll_records.specs.declared.values.NamedValue.{NamedValue}
 use Rattle.author_cli.specs.private.TwoFronts.{AreTwoFronts}
 use Rattle.pap_tree.specs.Flowchart.{Flowchart}
 use Rattle.plan_text.specs.Plans.{IsPlan}
 use Rattle.pap_plan.specs.AcceptanceClauses.{IsUnread}
 use Rattle.plan_answers.specs.Refusals.{HasDetail}
+use Rattle.plan_answers.specs.Answers.{Answer as Written, refusal}
 use Rattle.author_cli.specs.Answers.{Answer, IsChart, IsRanges, file_of, Answers}
 use Rattle.author_cli.proofs.TellsLemmas.{front, begins_ranges, begins_plan}
 
@@ -245,6 +248,43 @@ module _ (n m : ℕ) (more_plan : 1048576 < n) (more_limits : 262144 < m) where
   compared_front old new text reason (inr (inl h)) = inr (inl (unreadable_front old text reason h))
   compared_front old new text reason (inr (inr h)) = inr (inr (unreadable_front new text reason h))
 
+  -- ---- a run
+
+  told_front : (values : List NamedValue) (plan limits text : List ℕ) (reason : Option (List ℕ))
+      → IsToldRun values (take n plan) (take m limits) text reason → IsToldRun values plan limits text reason
+  told_front values plan limits text reason h =
+      let w = accepted_whole n m more_plan more_limits plan limits h.meaning h.accepted in
+      subst (λ l. IsToldRun values plan l text reason) w.1
+      (subst (λ p. IsToldRun values p (take m limits) text reason) w.0 h)
+
+  blocked_front : (values : List NamedValue) (plan limits : NamedText) (text : List ℕ) (reason : Option (List ℕ))
+      → IsBlockedRun values (front n plan) (front m limits) text reason → IsBlockedRun values plan limits text reason
+  blocked_front values plan limits text reason h =
+      let w = accepted_whole n m more_plan more_limits plan.bytes limits.bytes h.meaning h.accepted in
+      subst (λ l. IsBlockedRun values plan (record { name = limits.name; bytes = l }) text reason) w.1
+      (subst (λ p. IsBlockedRun values (record { name = plan.name; bytes = p }) (front m limits) text reason) w.0 h)
+
+  refused_run_front : (plan limits : NamedText) (text : List ℕ) (reason : Option (List ℕ))
+      → IsRefusedRun (front n plan) (front m limits) text reason → IsRefusedRun plan limits text reason
+  refused_run_front plan limits text reason h =
+      let a = refusal_answer n m more_plan more_limits plan.bytes h.refusal (refusal h.detail)
+      (record { detail = h.detail; has = h.has; is = refl }) in
+      record {
+        refusal = h.refusal;
+        detail = a.detail;
+        has = a.has;
+        written = h.written ∙ ap (λ (x : Written). x.text) a.is;
+        words = h.words;
+        said = h.said;
+        tells = tells_front plan limits h.words h.tells;
+      }
+
+  traced_front : (values : List NamedValue) (plan limits : NamedText) (text : List ℕ) (reason : Option (List ℕ))
+      → IsTraced values (front n plan) (front m limits) text reason → IsTraced values plan limits text reason
+  traced_front values plan limits text reason (inl h) = inl (told_front values plan.bytes limits.bytes text reason h)
+  traced_front values plan limits text reason (inr (inl h)) = inr (inl (blocked_front values plan limits text reason h))
+  traced_front values plan limits text reason (inr (inr h)) = inr (inr (refused_run_front plan limits text reason h))
+
 -- ---- of files that are there
 
 -- what two calls read of files that tell this; what the files tell behind each call says what they told before it
@@ -313,4 +353,21 @@ chart_within_of files plan limits bytes bytes' a read h =
           (file_of plan read.plan_bytes) (file_of limits read.limits_bytes) a
           (subst (λ b. IsChart (file_of plan b) (Some (file_of limits (take 262145 read.limits_bytes))) a)
           read.plan_read (subst (λ b. IsChart (file_of plan bytes) (Some (file_of limits b)) a) read.limits_read h));
+    }
+
+pub traced_of : (files : FileMap) (values : List NamedValue) (plan limits bytes bytes' : List ℕ) (a : Answer)
+    → AreFronts files plan limits bytes bytes'
+    → IsTraced values (file_of plan bytes) (file_of limits bytes') a.text a.reason
+    → Answers (traced plan limits values) files a
+traced_of files values plan limits bytes bytes' a read h =
+    record {
+      plan_bytes = read.plan_bytes;
+      limits_bytes = read.limits_bytes;
+      plan_there = read.plan_there;
+      limits_there = read.limits_there;
+      is = traced_front 1048577 262145 (omega arith) (omega arith) values
+          (file_of plan read.plan_bytes) (file_of limits read.limits_bytes) a.text a.reason
+          (subst (λ b. IsTraced values (file_of plan b) (file_of limits (take 262145 read.limits_bytes)) a.text a.reason)
+          read.plan_read
+          (subst (λ b. IsTraced values (file_of plan bytes) (file_of limits b) a.text a.reason) read.limits_read h));
     }

@@ -5,3 +5,4 @@ mod TellsLemmas
 mod FrontLemmas
 mod LeavesLemmas
 mod DraftLemmas
+mod TracedLemmas

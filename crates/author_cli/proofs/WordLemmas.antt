@@ -1,21 +1,29 @@
 -- The words of the program, and the form that they have.
-use Rattle.std.proofs.Common.{◌≡◌, ℕ, ◌<◌, ◌≤◌, List, [], ◌∷◌, length, get_or, sym, ap, ◌∙◌, arith}
+use Rattle.std.proofs.Common.{◌≡◌, ℕ, suc, ◌+◌, ◌-◌, ◌<◌, ◌≤◌, List, [], ◌∷◌, ◌++◌, length, take, drop, get_or, sym, ap, ◌∙◌, subst, arith, add-one}
 use Rattle.std.specs.Prelude.{codes, String, string_bytes}
 use Rattle.std.specs.declared.alloc.Global.{Global}
-use Rattle.std.proofs.lemmas.List.{length-map}
-use Rattle.author_cli.specs.Words.{texts, Form, chart, chart_within, ranges, compared, HasForm, IsBad}
+use Rattle.std.proofs.lemmas.List.{length-map, take_all, take_more, take-append-drop, map-append}
+use Rattle.std.proofs.Math.Seq.{drop-cons}
+use Rattle.payroll_records.specs.ValueWords.{AreValueWords}
+use Rattle.payroll_records.specs.declared.values.NamedValue.{NamedValue}
+use Rattle.payroll_records.proofs.Laws.{values_once}
+use Rattle.author_cli.specs.Words.{texts, Form, chart, chart_within, ranges, compared, traced, HasForm, IsBad}
+use Rattle.author_cli.specs.private.WordViews.{text_words}
 
 two_three : (a b c d e : List ℕ) → a ∷ b ∷ [] ≡ c ∷ d ∷ e ∷ [] → ⊥
 two_three a b c d e h = let l : 2 ≡ 3 = ap (λ w. length w) h in omega (arith, l)
 
-two_four : (a b c d e f : List ℕ) → a ∷ b ∷ [] ≡ c ∷ d ∷ e ∷ f ∷ [] → ⊥
-two_four a b c d e f h = let l : 2 ≡ 4 = ap (λ w. length w) h in omega (arith, l)
+two_more : (a b c d e f : List ℕ) (rest : List (List ℕ)) → a ∷ b ∷ [] ≡ c ∷ d ∷ e ∷ f ∷ rest → ⊥
+two_more a b c d e f rest h = let l : 2 ≡ suc (suc (suc (suc (length rest)))) = ap (λ w. length w) h in omega (arith, l)
 
-three_four : (a b c d e f g : List ℕ) → a ∷ b ∷ c ∷ [] ≡ d ∷ e ∷ f ∷ g ∷ [] → ⊥
-three_four a b c d e f g h = let l : 3 ≡ 4 = ap (λ w. length w) h in omega (arith, l)
+three_more : (a b c d e f g : List ℕ) (rest : List (List ℕ)) → a ∷ b ∷ c ∷ [] ≡ d ∷ e ∷ f ∷ g ∷ rest → ⊥
+three_more a b c d e f g rest h = let l : 3 ≡ suc (suc (suc (suc (length rest)))) = ap (λ w. length w) h in omega (arith, l)
 
 chart_ranges : codes "chart" ≡ codes "ranges" → ⊥
 chart_ranges e = cc
+
+compare_trace : codes "compare" ≡ codes "trace" → ⊥
+compare_trace e = cc
 
 -- ---- one form
 
@@ -49,15 +57,30 @@ one_form words (chart_within p l) (ranges q) h k = absurd (two_three _ q _ p l (
 one_form words (ranges p) (chart q) h k = absurd (chart_ranges (first words _ _ (q ∷ []) (p ∷ []) k h))
 one_form words (ranges p) (chart_within q l) h k = absurd (two_three _ p _ q l (sym h ∙ k))
 one_form words (ranges p) (ranges q) h k = ap (λ x. ranges x) (second words _ p _ q [] [] h k)
-one_form words (chart p) (compared o n) h k = absurd (two_four _ p _ _ o n (sym h ∙ k))
-one_form words (chart_within p l) (compared o n) h k = absurd (three_four _ p l _ _ o n (sym h ∙ k))
-one_form words (ranges p) (compared o n) h k = absurd (two_four _ p _ _ o n (sym h ∙ k))
-one_form words (compared o n) (chart p) h k = absurd (two_four _ p _ _ o n (sym k ∙ h))
-one_form words (compared o n) (chart_within p l) h k = absurd (three_four _ p l _ _ o n (sym k ∙ h))
-one_form words (compared o n) (ranges p) h k = absurd (two_four _ p _ _ o n (sym k ∙ h))
+one_form words (chart p) (compared o n) h k = absurd (two_more _ p _ _ o n [] (sym h ∙ k))
+one_form words (chart_within p l) (compared o n) h k = absurd (three_more _ p l _ _ o n [] (sym h ∙ k))
+one_form words (ranges p) (compared o n) h k = absurd (two_more _ p _ _ o n [] (sym h ∙ k))
+one_form words (compared o n) (chart p) h k = absurd (two_more _ p _ _ o n [] (sym k ∙ h))
+one_form words (compared o n) (chart_within p l) h k = absurd (three_more _ p l _ _ o n [] (sym k ∙ h))
+one_form words (compared o n) (ranges p) h k = absurd (two_more _ p _ _ o n [] (sym k ∙ h))
 one_form words (compared o n) (compared q m) h k =
     ap (λ x. compared x n) (third_of_four words _ _ o n _ _ q m h k)
     ∙ ap (λ x. compared q x) (fourth words _ _ o n _ _ q m h k)
+one_form words (chart p) (traced q l vs) h k = absurd (two_more _ p _ _ q l k.rest (sym h ∙ k.words_are))
+one_form words (chart_within p m) (traced q l vs) h k = absurd (three_more _ p m _ _ q l k.rest (sym h ∙ k.words_are))
+one_form words (ranges p) (traced q l vs) h k = absurd (two_more _ p _ _ q l k.rest (sym h ∙ k.words_are))
+one_form words (compared o n) (traced q l vs) h k =
+    absurd (compare_trace (second words _ (codes "compare") _ (codes "trace") (o ∷ n ∷ []) (q ∷ l ∷ k.rest) h k.words_are))
+one_form words (traced q l vs) (chart p) h k = absurd (two_more _ p _ _ q l h.rest (sym k ∙ h.words_are))
+one_form words (traced q l vs) (chart_within p m) h k = absurd (three_more _ p m _ _ q l h.rest (sym k ∙ h.words_are))
+one_form words (traced q l vs) (ranges p) h k = absurd (two_more _ p _ _ q l h.rest (sym k ∙ h.words_are))
+one_form words (traced q l vs) (compared o n) h k =
+    absurd (compare_trace (second words _ (codes "compare") _ (codes "trace") (o ∷ n ∷ []) (q ∷ l ∷ h.rest) k h.words_are))
+one_form words (traced p l vs) (traced q m us) h k =
+    let same = sym h.words_are ∙ k.words_are in
+    ap (λ w. traced (get_or w 2 []) (get_or w 3 []) vs) same
+    ∙ ap (λ v. traced q m v)
+    (values_once k.rest vs us (subst (λ r. AreValueWords r vs) (ap (λ w. drop 4 w) same) h.values_are) k.values_are)
 
 -- ---- no form
 
@@ -67,34 +90,60 @@ pub no_two : (command plan : List ℕ) → ¬ (command ≡ codes "chart") → ¬
 no_two command plan no_chart no_ranges (chart p) h = no_chart (ap (λ w. get_or w 0 []) h)
 no_two command plan no_chart no_ranges (chart_within p l) h = two_three _ plan _ p l h
 no_two command plan no_chart no_ranges (ranges p) h = no_ranges (ap (λ w. get_or w 0 []) h)
-no_two command plan no_chart no_ranges (compared o n) h = two_four _ plan _ _ o n h
+no_two command plan no_chart no_ranges (compared o n) h = two_more _ plan _ _ o n [] h
+no_two command plan no_chart no_ranges (traced p l vs) h = two_more _ plan _ _ p l h.rest h.words_are
 
 -- a command and two names
 pub no_three : (command plan limits : List ℕ) → ¬ (command ≡ codes "chart") → IsBad (command ∷ plan ∷ limits ∷ [])
 no_three command plan limits no_chart (chart p) h = two_three _ p _ plan limits (sym h)
 no_three command plan limits no_chart (chart_within p l) h = no_chart (ap (λ w. get_or w 0 []) h)
 no_three command plan limits no_chart (ranges p) h = two_three _ p _ plan limits (sym h)
-no_three command plan limits no_chart (compared o n) h = three_four _ plan limits _ _ o n h
+no_three command plan limits no_chart (compared o n) h = three_more _ plan limits _ _ o n [] h
+no_three command plan limits no_chart (traced p l vs) h = three_more _ plan limits _ _ p l h.rest h.words_are
 
--- a form, a command and two names
-pub no_four : (form command old new : List ℕ) → (form ≡ codes "text" → ¬ (command ≡ codes "compare"))
-    → IsBad (form ∷ command ∷ old ∷ new ∷ [])
-no_four form command old new wrong (chart p) h = two_four _ p _ _ old new (sym h)
-no_four form command old new wrong (chart_within p l) h = three_four _ p l _ _ old new (sym h)
-no_four form command old new wrong (ranges p) h = two_four _ p _ _ old new (sym h)
-no_four form command old new wrong (compared o n) h =
-    wrong (ap (λ w. get_or w 0 []) h) (ap (λ w. get_or w 1 []) h)
+-- a form, a command, two names and some words
+pub no_more : (form command first second : List ℕ) (rest : List (List ℕ))
+    → (form ≡ codes "text" → ¬ (command ≡ codes "compare")) → (form ≡ codes "text" → ¬ (command ≡ codes "trace"))
+    → IsBad (form ∷ command ∷ first ∷ second ∷ rest)
+no_more form command first second rest no_compare no_trace (chart p) h = two_more _ p _ _ first second rest (sym h)
+no_more form command first second rest no_compare no_trace (chart_within p l) h =
+    three_more _ p l _ _ first second rest (sym h)
+no_more form command first second rest no_compare no_trace (ranges p) h = two_more _ p _ _ first second rest (sym h)
+no_more form command first second rest no_compare no_trace (compared o n) h =
+    no_compare (ap (λ w. get_or w 0 []) h) (ap (λ w. get_or w 1 []) h)
+no_more form command first second rest no_compare no_trace (traced p l vs) h =
+    no_trace (ap (λ w. get_or w 0 []) h.words_are) (ap (λ w. get_or w 1 []) h.words_are)
+
+-- `text compare` and more than two names
+pub no_compared : (old new : List ℕ) (rest : List (List ℕ)) → ¬ (length rest ≡ 0)
+    → IsBad (text_words (codes "compare") old new rest)
+no_compared old new rest more (chart p) h = two_more _ p _ _ old new rest (sym h)
+no_compared old new rest more (chart_within p l) h = three_more _ p l _ _ old new rest (sym h)
+no_compared old new rest more (ranges p) h = two_more _ p _ _ old new rest (sym h)
+no_compared old new rest more (compared o n) h = more (ap (λ w. length (drop 4 w)) h)
+no_compared old new rest more (traced p l vs) h = compare_trace (ap (λ w. get_or w 1 []) h.words_are)
+
+-- `text trace` and words that give no values
+pub no_traced : (plan limits : List ℕ) (rest : List (List ℕ)) → ((values : List NamedValue) → ¬ (AreValueWords rest values))
+    → IsBad (text_words (codes "trace") plan limits rest)
+no_traced plan limits rest none (chart p) h = two_more _ p _ _ plan limits rest (sym h)
+no_traced plan limits rest none (chart_within p l) h = three_more _ p l _ _ plan limits rest (sym h)
+no_traced plan limits rest none (ranges p) h = two_more _ p _ _ plan limits rest (sym h)
+no_traced plan limits rest none (compared o n) h = compare_trace (sym (ap (λ w. get_or w 1 []) h))
+no_traced plan limits rest none (traced p l vs) h =
+    none vs (subst (λ r. AreValueWords r vs) (sym (ap (λ w. drop 4 w) h.words_are)) h.values_are)
 
 as_many : (words : List (String Global)) (list : List (List ℕ)) → texts words ≡ list → length words ≡ length list
 as_many words list e = sym (length-map words (λ w. string_bytes w)) ∙ ap (λ w. length w) e
 
--- neither two words nor three nor four
-pub no_other : (words : List (String Global)) → ¬ (length words ≡ 2) → ¬ (length words ≡ 3) → ¬ (length words ≡ 4)
+-- neither two words nor three nor more
+pub no_other : (words : List (String Global)) → ¬ (length words ≡ 2) → ¬ (length words ≡ 3) → length words < 4
     → IsBad (texts words)
-no_other words two three four (chart p) h = two (as_many words _ h)
-no_other words two three four (chart_within p l) h = three (as_many words _ h)
-no_other words two three four (ranges p) h = two (as_many words _ h)
-no_other words two three four (compared o n) h = four (as_many words _ h)
+no_other words two three few (chart p) h = two (as_many words _ h)
+no_other words two three few (chart_within p l) h = three (as_many words _ h)
+no_other words two three few (ranges p) h = two (as_many words _ h)
+no_other words two three few (compared o n) h = let l = as_many words _ h in omega (arith, l, few)
+no_other words two three few (traced p l vs) h = let l = as_many words _ h.words_are in omega (arith, l, few)
 
 -- ---- all words
 
@@ -122,18 +171,35 @@ three_texts (x ∷ y ∷ z ∷ []) w v u a b c least below is is' is'' same same
     ∙ ap (λ t. string_bytes x ∷ string_bytes y ∷ t ∷ []) (same'' ∙ ap (λ z. string_bytes z) is'')
 three_texts (x ∷ y ∷ z ∷ k ∷ words) w v u a b c least below is is' is'' same same' same'' = absurd (omega arith)
 
-pub four_texts : (words : List (String Global)) (w v u t : String Global) (a b c d : List ℕ) → 4 ≤ length words
-    → length words < 5
+pub more_texts : (words rest : List (String Global)) (w v u t : String Global) (a b c d : List ℕ) → 4 ≤ length words
     → w ≡ get_or words 0 w → v ≡ get_or words 1 v → u ≡ get_or words 2 u → t ≡ get_or words 3 t → a ≡ string_bytes w
-    → b ≡ string_bytes v → c ≡ string_bytes u → d ≡ string_bytes t
-    → a ∷ b ∷ c ∷ d ∷ [] ≡ texts words
-four_texts [] w v u t a b c d least below iw iv iu it sw sv su st = absurd (omega arith)
-four_texts (x ∷ []) w v u t a b c d least below iw iv iu it sw sv su st = absurd (omega arith)
-four_texts (x ∷ y ∷ []) w v u t a b c d least below iw iv iu it sw sv su st = absurd (omega arith)
-four_texts (x ∷ y ∷ z ∷ []) w v u t a b c d least below iw iv iu it sw sv su st = absurd (omega arith)
-four_texts (x ∷ y ∷ z ∷ k ∷ []) w v u t a b c d least below iw iv iu it sw sv su st =
-    ap (λ p. p ∷ b ∷ c ∷ d ∷ []) (sw ∙ ap (λ q. string_bytes q) iw)
-    ∙ ap (λ p. string_bytes x ∷ p ∷ c ∷ d ∷ []) (sv ∙ ap (λ q. string_bytes q) iv)
-    ∙ ap (λ p. string_bytes x ∷ string_bytes y ∷ p ∷ d ∷ []) (su ∙ ap (λ q. string_bytes q) iu)
-    ∙ ap (λ p. string_bytes x ∷ string_bytes y ∷ string_bytes z ∷ p ∷ []) (st ∙ ap (λ q. string_bytes q) it)
-four_texts (x ∷ y ∷ z ∷ k ∷ l ∷ words) w v u t a b c d least below iw iv iu it sw sv su st = absurd (omega arith)
+    → b ≡ string_bytes v → c ≡ string_bytes u → d ≡ string_bytes t → rest ≡ take (length words - 4) (drop 4 words)
+    → a ∷ b ∷ c ∷ d ∷ texts rest ≡ texts words
+more_texts [] rest w v u t a b c d least iw iv iu it sw sv su st sr = absurd (omega arith)
+more_texts (x ∷ []) rest w v u t a b c d least iw iv iu it sw sv su st sr = absurd (omega arith)
+more_texts (x ∷ y ∷ []) rest w v u t a b c d least iw iv iu it sw sv su st sr = absurd (omega arith)
+more_texts (x ∷ y ∷ z ∷ []) rest w v u t a b c d least iw iv iu it sw sv su st sr = absurd (omega arith)
+more_texts (x ∷ y ∷ z ∷ k ∷ more) rest w v u t a b c d least iw iv iu it sw sv su st sr =
+    let whole : take (length (x ∷ y ∷ z ∷ k ∷ more) - 4) more ≡ more =
+    take_all (length (x ∷ y ∷ z ∷ k ∷ more) - 4) more (omega arith) in
+    ap (λ p. p ∷ b ∷ c ∷ d ∷ texts rest) (sw ∙ ap (λ q. string_bytes q) iw)
+    ∙ ap (λ p. string_bytes x ∷ p ∷ c ∷ d ∷ texts rest) (sv ∙ ap (λ q. string_bytes q) iv)
+    ∙ ap (λ p. string_bytes x ∷ string_bytes y ∷ p ∷ d ∷ texts rest) (su ∙ ap (λ q. string_bytes q) iu)
+    ∙ ap (λ p. string_bytes x ∷ string_bytes y ∷ string_bytes z ∷ p ∷ texts rest) (st ∙ ap (λ q. string_bytes q) it)
+    ∙ ap (λ p. string_bytes x ∷ string_bytes y ∷ string_bytes z ∷ string_bytes k ∷ texts p) (sr ∙ whole)
+
+-- ---- some words of a list
+
+pub texts_one_more : (words : List (String Global)) (i : ℕ) (w : String Global) → w ≡ get_or words i w → i < length words
+    → texts (take (i + 1) words) ≡ texts (take i words) ++ string_bytes w ∷ []
+texts_one_more words i w is lt =
+    ap texts (take_more words i w lt) ∙ map-append (λ x. string_bytes x) (take i words) (get_or words i w ∷ [])
+    ∙ ap (λ x. texts (take i words) ++ string_bytes x ∷ []) (sym is)
+
+pub texts_cut : (words : List (String Global)) (i : ℕ) (w : String Global) → w ≡ get_or words i w → i < length words
+    → texts words ≡ texts (take i words) ++ (string_bytes w ∷ texts (drop (i + 1) words))
+texts_cut words i w is lt =
+    ap texts (sym (take-append-drop i words) ∙ ap (λ z. take i words ++ z) (drop-cons words i w lt))
+    ∙ map-append (λ x. string_bytes x) (take i words) (get_or words i w ∷ drop (suc i) words)
+    ∙ ap (λ x. texts (take i words) ++ (string_bytes x ∷ texts (drop (suc i) words))) (sym is)
+    ∙ ap (λ n. texts (take i words) ++ (string_bytes w ∷ texts (drop n words))) (sym (add-one i))

@@ -1,6 +1,7 @@
 -- What is written on the bytes of a plan's file and of a range file.
 use Rattle.std.specs.Prelude.{◌≡◌, ◌≤◌, ◌⊎◌, ℕ, List, length, Option, Some, None, option_map}
 use Rattle.outside.specs.Told.{FileMap}
+use Rattle.payroll_records.specs.declared.values.NamedValue.{NamedValue}
 use Rattle.pap_reader.specs.declared.fault.ReadFault.{ReadFault}
 use Rattle.pap_reader.specs.Trees.{ElementTree}
 use Rattle.pap_reader.specs.Elements.{IsElements, IsFault}
@@ -14,8 +15,9 @@ use Rattle.plan_answers.specs.Refusals.{read_detail}
 use Rattle.range_draft.specs.Draft.{IsDraft}
 use Rattle.flowchart_page.specs.Pages.{IsPage}
 use Rattle.flowchart_page.specs.Verdicts.{files_with, IsJudged}
-use Rattle.author_cli.specs.Words.{Form, chart, chart_within, ranges, compared}
+use Rattle.author_cli.specs.Words.{Form, chart, chart_within, ranges, compared, traced}
 use Rattle.author_cli.specs.Compared.{IsCompared}
+use Rattle.author_cli.specs.Traced.{IsTraced}
 
 -- what is written, and why a plan is refused, or that two differ, in words, where that is so
 pub record Answer : Type 0 where
@@ -85,9 +87,18 @@ pub record ComparesFiles (old new : List ℕ) (files : FileMap) (answer : Answer
   pub new_there : files new ≡ Some new_bytes
   pub is : IsCompared (file_of old old_bytes) (file_of new new_bytes) answer.text answer.reason
 
+-- both files are there, and this is the answer on the run of the one within the ranges of the other
+pub record TracesFiles (values : List NamedValue) (plan limits : List ℕ) (files : FileMap) (answer : Answer) : Type 0 where
+  pub plan_bytes : List ℕ
+  pub limits_bytes : List ℕ
+  pub plan_there : files plan ≡ Some plan_bytes
+  pub limits_there : files limits ≡ Some limits_bytes
+  pub is : IsTraced values (file_of plan plan_bytes) (file_of limits limits_bytes) answer.text answer.reason
+
 -- the answer to words of this form
 abbrev pub Answers : Form → FileMap → Answer → Type 0
 Answers (chart plan) files answer = AnswersFile (λ file page. IsChart file None page) plan files answer
 Answers (chart_within plan limits) files answer = ChartsFiles plan limits files answer
 Answers (ranges plan) files answer = AnswersFile IsRanges plan files answer
 Answers (compared old new) files answer = ComparesFiles old new files answer
+Answers (traced plan limits values) files answer = TracesFiles values plan limits files answer

@@ -1,6 +1,8 @@
 -- The forms of the words.
 use Rattle.std.specs.Prelude.{◌≡◌, ℕ, List, [], ◌∷◌, map, codes, String, string_bytes}
 use Rattle.std.specs.declared.alloc.Global.{Global}
+use Rattle.payroll_records.specs.declared.values.NamedValue.{NamedValue}
+use Rattle.payroll_records.specs.ValueWords.{AreValueWords}
 
 -- the words as their bytes
 abbrev pub texts : List (String Global) → List (List ℕ)
@@ -16,6 +18,14 @@ pub data Form : Type 0 where
   ranges : List ℕ → Form
   -- text compare OLD NEW
   compared : List ℕ → List ℕ → Form
+  -- text trace PLAN LIMITS NAME=VALUE ..
+  traced : List ℕ → List ℕ → List NamedValue → Form
+
+-- the words are `text trace`, the names of two files, and value words that give these values
+pub record HasTraceForm (words : List (List ℕ)) (plan limits : List ℕ) (values : List NamedValue) : Type 0 where
+  pub rest : List (List ℕ)
+  pub words_are : words ≡ codes "text" ∷ codes "trace" ∷ plan ∷ limits ∷ rest
+  pub values_are : AreValueWords rest values
 
 -- the words have this form
 abbrev pub HasForm : List (List ℕ) → Form → Type 0
@@ -23,6 +33,7 @@ HasForm words (chart plan) = words ≡ codes "chart" ∷ plan ∷ []
 HasForm words (chart_within plan limits) = words ≡ codes "chart" ∷ plan ∷ limits ∷ []
 HasForm words (ranges plan) = words ≡ codes "ranges" ∷ plan ∷ []
 HasForm words (compared old new) = words ≡ codes "text" ∷ codes "compare" ∷ old ∷ new ∷ []
+HasForm words (traced plan limits values) = HasTraceForm words plan limits values
 
 -- the words have no form
 abbrev pub IsBad : List (List ℕ) → Type 0

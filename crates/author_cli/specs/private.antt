@@ -1,3 +1,4 @@
 pub mod AnswerViews
 pub mod TwoFronts
 pub mod WordViews
+pub mod TracedViews

@@ -3,7 +3,7 @@ ghost use Rattle.std.specs.Prelude.{◌≡◌, IfOk, None, option_map};
 ghost use Rattle.outside.specs.Causes.{Caused};
 ghost use Rattle.pap_reader.specs.Elements.{IsFault};
 ghost use Rattle.plain_words.specs.Places.{named_text};
-ghost use Rattle.author_cli.specs.Words.{chart, chart_within, ranges, compared};
+ghost use Rattle.author_cli.specs.Words.{chart, chart_within, ranges, compared, traced};
 ghost use Rattle.author_cli.specs.private.WordViews.{form_of};
 ghost use Rattle.author_cli.specs.Answers.{IsChart, IsUnread, IsRanges};
 ghost use Rattle.author_cli.specs.private.AnswerViews.{answer_of, Makes};
@@ -12,11 +12,13 @@ ghost use Rattle.author_cli.specs.CallClauses.{Leaves};
 
 use crate::compared::{compare_plans, read_two};
 use crate::stop::Stop;
+use crate::traced::trace_plan;
 use crate::words::Request;
 use flowchart_page::{Chart, draw_chart};
 use outside::{FileAnswer, Files, Sink, put_all};
 use pap_plan::PlanRefusal;
 use pap_reader::{LONGEST_PLAN, ReadFault, read_elements};
+use payroll_records::Values;
 use plain_words::{TextFile, plan_words};
 use plan_answers::{read_both, refused};
 use plan_notes::read_notes;
@@ -67,6 +69,11 @@ fn make_answer<F: Files>(
         Request::ChartWithin { plan, limits } => answer_chart_within(alloc, plan, limits, files),
         Request::Ranges { plan } => answer_ranges(alloc, plan, files),
         Request::Compare { old, new } => answer_compared(alloc, old, new, files),
+        Request::Trace {
+            plan,
+            limits,
+            values,
+        } => answer_traced(alloc, plan, limits, values, files),
     }
 }
 
@@ -146,6 +153,31 @@ fn answer_compared<F: Files>(
         bytes: &new_bytes,
     };
     Ok(compare_plans(alloc, old, new)?)
+}
+
+/// The text of a run.
+fn answer_traced<F: Files>(
+    alloc: Global,
+    plan: &str,
+    limits: &str,
+    values: Values,
+    files: &mut F,
+) -> Result<Answer, FileAnswer>
+    ensures made { Makes (traced plan.now limits.now values)
+        (F.told files.old) (F.failed files.old) (F.failed files.new) result }
+    ensures same { F.told files.new ≡ F.told files.old }
+    ensures cause { Caused FileAnswer.Failed (F.faults files.old) (F.faults files.new) result }
+{
+    let (plan_bytes, limits_bytes) = read_both(alloc, plan, limits, files)?;
+    let plan = TextFile {
+        name: plan,
+        bytes: &plan_bytes,
+    };
+    let limits = TextFile {
+        name: limits,
+        bytes: &limits_bytes,
+    };
+    Ok(trace_plan(alloc, plan, limits, values)?)
 }
 
 /// The page of a plan's bytes, with those of a range file or without.

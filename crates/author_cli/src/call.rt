@@ -1,5 +1,5 @@
 //! The top call.
-ghost use Rattle.std.specs.Prelude.{◌≡◌, Err, IsErrOf};
+ghost use Rattle.std.specs.Prelude.{◌≡◌, ◌≢◌, Err, IsErrOf};
 ghost use Rattle.outside.specs.Causes.{Rose};
 ghost use Rattle.author_cli.specs.Words.{texts, Form, HasForm, IsBad};
 ghost use Rattle.author_cli.specs.Outside.{IsUntouched, outside_of};
@@ -17,9 +17,10 @@ use std::alloc::Global;
 ///
 /// The forms of the words are `chart PLAN` and `chart PLAN LIMITS`, which write the flowchart of the file PLAN as one
 /// page of HTML, without a range file or with that of the file LIMITS, `ranges PLAN`, which writes a range file to
-/// begin with, and `text compare OLD NEW`, which writes what the flowchart of the file NEW changed against that of OLD.
-/// All other words are [`Stop::Words`]. `Ok` means that all was written: it has why a plan is refused, in plain words in
-/// one line, or that two flowcharts differ, and nothing where neither is so.
+/// begin with, `text compare OLD NEW`, which writes what the flowchart of the file NEW changed against that of OLD, and
+/// `text trace PLAN LIMITS NAME=VALUE ..`, which writes each statement that a run on these inputs executes. All other words
+/// are [`Stop::Words`]. `Ok` means that all was written: it has why a plan is refused or a run has no inputs, in plain words
+/// in one line, or that two flowcharts differ, and nothing where none of these is so.
 pub fn pap_author<F: Files, W: Sink>(
     alloc: Global,
     words: &[String],
@@ -27,7 +28,8 @@ pub fn pap_author<F: Files, W: Sink>(
     sink: &mut W,
 ) -> Result<Option<String>, Stop>
     // The words have no form: nothing is called.
-    ensures bad_words { IsBad (texts words.now) → IsErrOf result Stop.Words }
+    ensures bad_words { IsBad (texts words.now)
+        → result ≢ Err Stop.Memory → IsErrOf result Stop.Words }
     ensures bad_words_alone { IsErrOf result Stop.Words → IsBad (texts words.now) }
     ensures bad_words_untouched { IsBad (texts words.now)
         → IsUntouched files.old files.new sink.old sink.new }
@@ -48,9 +50,10 @@ pub fn pap_author<F: Files, W: Sink>(
         (outside_of F.Files W.Sink files.old sink.old)
         (outside_of F.Files W.Sink files.new sink.new) result }
 {
-    match read_words(words) {
-        Some(request) => write_answer(alloc, request, files, sink),
-        None => Err(Stop::Words),
+    match read_words(alloc, words) {
+        Ok(Some(request)) => write_answer(alloc, request, files, sink),
+        Ok(None) => Err(Stop::Words),
+        Err(_) => Err(Stop::Memory),
     }
 }
 

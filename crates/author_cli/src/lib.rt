@@ -5,6 +5,7 @@ mod answer;
 mod call;
 mod compared;
 mod stop;
+mod traced;
 mod words;
 
 pub use call::{draft_laws, pap_author, word_laws};

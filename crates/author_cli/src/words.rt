@@ -1,36 +1,59 @@
 //! The words of the command line.
-ghost use Rattle.std.specs.Prelude.{◌∷◌, [], MatchOption};
+ghost use Rattle.std.specs.Prelude.{◌∷◌, [], codes, IfOk, MatchOption, List};
+ghost use Rattle.payroll_records.specs.declared.values.NamedValue.{NamedValue as Value};
+ghost use Rattle.payroll_records.specs.ValueWords.{AreValueWords};
 ghost use Rattle.author_cli.specs.Words.{texts, HasForm, IsBad};
-ghost use Rattle.author_cli.specs.private.WordViews.{form_of};
+ghost use Rattle.author_cli.specs.private.WordViews.{form_of, text_words};
+
+use payroll_records::{InsertFault, NamedValue, Values};
+use std::alloc::{AllocError, Global};
 
 /// What the words ask for, each file by its name.
-#[derive(Clone, Copy)]
+#[derive(Drop)]
 pub(crate) enum Request<'a> {
     /// `chart PLAN`
-    Chart { plan: &'a str },
+    Chart {
+        plan: &'a str,
+    },
     /// `chart PLAN LIMITS`
-    ChartWithin { plan: &'a str, limits: &'a str },
+    ChartWithin {
+        plan: &'a str,
+        limits: &'a str,
+    },
     /// `ranges PLAN`
-    Ranges { plan: &'a str },
+    Ranges {
+        plan: &'a str,
+    },
     /// `text compare OLD NEW`
-    Compare { old: &'a str, new: &'a str },
+    Compare {
+        old: &'a str,
+        new: &'a str,
+    },
+    /// `text trace PLAN LIMITS NAME=VALUE ..`, with the values.
+    Trace {
+        plan: &'a str,
+        limits: &'a str,
+        values: Values,
+    },
 }
 
 /// What the words ask for. `None` where they have no form.
-pub(crate) fn read_words(words: &[String]) -> Option<Request<'_>>
-    ensures { MatchOption result (IsBad (texts words.now))
-        (λ request. HasForm (texts words.now) (form_of request)) }
+pub(crate) fn read_words(alloc: Global, words: &[String]) -> Result<Option<Request<'_>>, AllocError>
+    ensures { IfOk result (λ found. MatchOption found (IsBad (texts words.now))
+        (λ request. HasForm (texts words.now) (form_of request))) }
 {
     match words {
-        [command, plan] => read_two(command.as_str(), plan.as_str()),
-        [command, plan, limits] => read_three(command.as_str(), plan.as_str(), limits.as_str()),
-        [form, command, old, new] => read_four(
+        [command, plan] => Ok(read_two(command.as_str(), plan.as_str())),
+        [command, plan, limits] => Ok(read_three(command.as_str(), plan.as_str(), limits.as_str())),
+        [form, command, first, second, rest @ ..] => read_more(
+            alloc,
             form.as_str(),
             command.as_str(),
-            old.as_str(),
-            new.as_str(),
+            first.as_str(),
+            second.as_str(),
+            rest,
         ),
-        _ => None,
+        _ => Ok(None),
     }
 }
 
@@ -57,13 +80,78 @@ fn read_three<'a>(command: &str, plan: &'a str, limits: &'a str) -> Option<Reque
     }
 }
 
-/// What a form, a command and two names ask for.
-fn read_four<'a>(form: &str, command: &str, old: &'a str, new: &'a str) -> Option<Request<'a>>
-    ensures { MatchOption result (IsBad (form.now ∷ command.now ∷ old.now ∷ new.now ∷ []))
-        (λ request. HasForm (form.now ∷ command.now ∷ old.now ∷ new.now ∷ []) (form_of request)) }
+/// What a form, a command, two names and some words ask for.
+fn read_more<'a>(
+    alloc: Global,
+    form: &str,
+    command: &str,
+    first: &'a str,
+    second: &'a str,
+    rest: &[String],
+) -> Result<Option<Request<'a>>, AllocError>
+    ensures { let words = form.now ∷ command.now ∷ first.now ∷ second.now ∷ texts rest.now in
+        IfOk result (λ found. MatchOption found (IsBad words)
+        (λ request. HasForm words (form_of request))) }
 {
     match (form, command) {
-        ("text", "compare") => Some(Request::Compare { old, new }),
-        _ => None,
+        ("text", "compare") => Ok(read_compared(first, second, rest)),
+        ("text", "trace") => read_trace(alloc, first, second, rest),
+        _ => Ok(None),
     }
+}
+
+/// What `text compare`, two names and some words ask for.
+fn read_compared<'a>(old: &'a str, new: &'a str, rest: &[String]) -> Option<Request<'a>>
+    ensures { MatchOption result (IsBad (text_words (codes "compare") old.now new.now (texts rest.now)))
+        (λ request. HasForm (text_words (codes "compare") old.now new.now (texts rest.now))
+        (form_of request)) }
+{
+    if rest.is_empty() {
+        Some(Request::Compare { old, new })
+    } else {
+        None
+    }
+}
+
+/// What `text trace`, two names and some words ask for.
+fn read_trace<'a>(
+    alloc: Global,
+    plan: &'a str,
+    limits: &'a str,
+    rest: &[String],
+) -> Result<Option<Request<'a>>, AllocError>
+    ensures { IfOk result (λ found. MatchOption found
+        (IsBad (text_words (codes "trace") plan.now limits.now (texts rest.now)))
+        (λ request. HasForm (text_words (codes "trace") plan.now limits.now (texts rest.now))
+        (form_of request))) }
+{
+    match read_values(alloc, rest)? {
+        Some(values) => Ok(Some(Request::Trace {
+            plan,
+            limits,
+            values,
+        })),
+        None => Ok(None),
+    }
+}
+
+/// The values of words. `None` where a word is no value word, a name stands twice, or there are more than 256 words.
+fn read_values(alloc: Global, words: &[String]) -> Result<Option<Values>, AllocError>
+    ensures { IfOk result (λ found. MatchOption found
+        ((values : List Value) → ¬ (AreValueWords (texts words.now) values))
+        (AreValueWords (texts words.now))) }
+{
+    let mut values = Values::new(alloc);
+    for word in words {
+        let Some(value) = NamedValue::read(word.as_bytes()) else {
+            return Ok(None);
+        };
+        match values.insert(value) {
+            Ok(()) => {}
+            Err(InsertFault::Twice) => return Ok(None),
+            Err(InsertFault::Full) => return Ok(None),
+            Err(InsertFault::Memory(error)) => return Err(error),
+        }
+    }
+    Ok(Some(values))
 }

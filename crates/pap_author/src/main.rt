@@ -1,4 +1,4 @@
-//! Helps the author of a flowchart: draws it as a page, begins its range file, and compares it with another.
+//! Helps the author of a flowchart: draws it as a page, begins its range file, compares it with another, and traces a run.
 #![tactic(auto)]
 
 use author_cli::{Stop, exit_number, pap_author};
@@ -11,14 +11,14 @@ use std::process::ExitCode;
 /// What is said where the words ask for nothing.
 const USAGE: &str =
     "usage: pap_author chart PLAN | pap_author chart PLAN LIMITS | pap_author ranges PLAN | \
-    pap_author text compare OLD NEW";
+    pap_author text compare OLD NEW | pap_author text trace PLAN LIMITS NAME=VALUE ..";
 
 /// The answer to `--version`, with the checksum of the prover's rules by which the contracts are proved.
 const VERSION: &str = "pap_author 1.0.0 (rules dac8208d650f15bf)";
 
 /// The answer to `--help`.
 const HELP: &str =
-    "pap_author draws a wage tax flowchart as a page, begins its range file, and compares it with the one before
+    "pap_author draws a wage tax flowchart as a page, begins its range file, compares it with the one before, and traces a run
 
 usage:
   pap_author chart PLAN            write the flowchart as one page of HTML: what can be said of it without a range file, its
@@ -29,6 +29,9 @@ usage:
                                    type, and what to narrow
   pap_author text compare OLD NEW  write what the flowchart NEW changed against OLD: declarations with their values, and method
                                    by method the statements; each line begins with = the same, ~ changed, + new or - gone
+  pap_author text trace PLAN LIMITS NAME=VALUE ..
+                                   write the run on these inputs: its inputs and outputs, and each statement that it executes,
+                                   with its place, its line in PLAN, what it puts or answers, and the values that it reads
   pap_author --help                write this text
   pap_author --version             write the program's version
 
@@ -39,10 +42,11 @@ Where the plan is refused, a line on standard error says in plain words what is 
 helps. `chart` writes the page all the same, with the reason in it; that of a file that can't be read as a flowchart has no
 drawing. `ranges` doesn't judge the flowchart: only of a file that can't be read as one the line of its refusal is written,
 in place of the range file. `compare` doesn't judge its flowcharts either: the line of the first file that can't be read as
-one is written in place of the text.
+one is written in place of the text. `trace` fills inputs that aren't given as `papcalc once` does, and of a refused plan or
+a run without inputs it writes the line that `papcalc once` writes.
 
-It ends with 0 where all was written, 1 where that is of a refused plan or of two flowcharts that differ, 2 where the words
-are none of these, 3 where a file can't be read, 5 where the output can't be written, 6 where memory runs out.";
+It ends with 0 where all was written, 1 where that is of a refused plan, of a run without inputs or of two flowcharts that
+differ, 2 where the words are none of these, 3 where a file can't be read, 5 where the output can't be written, 6 where memory runs out.";
 
 /// The words after the program's name.
 fn words_of(rt: &HostRuntime) -> io::Result<Vec<String>> {

@@ -1,10 +1,16 @@
 -- A request, as the form that it stands for.
+use Rattle.std.specs.Prelude.{ℕ, List, ◌∷◌, codes}
 use Rattle.author_cli.specs.declared.words.Request.{Request}
 use Rattle.author_cli.specs.declared.words.Request.TheVariants as requests
-use Rattle.author_cli.specs.Words.{Form, chart, chart_within, ranges, compared}
+use Rattle.author_cli.specs.Words.{Form, chart, chart_within, ranges, compared, traced}
 
 abbrev pub form_of : Request → Form
 form_of (requests.Chart plan) = chart plan.now
 form_of (requests.ChartWithin plan limits) = chart_within plan.now limits.now
 form_of (requests.Ranges plan) = ranges plan.now
 form_of (requests.Compare old new) = compared old.now new.now
+form_of (requests.Trace plan limits values) = traced plan.now limits.now values
+
+-- `text`, a command, two names and some words
+abbrev pub text_words : List ℕ → List ℕ → List ℕ → List (List ℕ) → List (List ℕ)
+text_words command first second rest = codes "text" ∷ command ∷ first ∷ second ∷ rest
