@@ -1,0 +1,13 @@
+mod NameLemmas
+mod CountLemmas
+mod StartLemmas
+mod PutLemmas
+mod MethodLemmas
+mod ExpressionLemmas
+pub mod RunLemmas
+pub mod AnswerLemmas
+pub mod UnsafeLemmas
+pub mod FitLemmas
+pub mod OperationLemmas
+pub mod EndLemmas
+pub mod DivisorLemmas

@@ -1,0 +1,11 @@
+use Rattle.std.proofs.Common.{rules, FitsSigned}
+use Rattle.std.specs.Int.{w128}
+use Rattle.std.proofs.lemmas.Int.{to_z-of_z}
+use Rattle.checked_run.proofs.OperationLemmas.{sum_answer}
+use Rattle.checked_run.proofs.operations.whole_sum.Goals as goal
+
+pub returns : goal.returns
+returns c =
+    let held : FitsSigned w128 c.sum_of.result = search rules in
+    sum_answer c.args.kind c.args.a c.args.b c.sum_of.result c.whole.result
+    c.sum_of.ensures (simp to_z-of_z at c.whole.ensures)

@@ -1,0 +1,5 @@
+pub mod FitViews
+pub mod OperationViews
+pub mod OutlineViews
+pub mod ValueViews
+pub mod WalkViews

@@ -1,0 +1,80 @@
+-- What private contracts say of single operations.
+use Rattle.std.specs.Prelude.{◌≡◌, ℕ, ℤ, ⊤, Some, Result, Ok, Err}
+use Rattle.scaled_decimal.specs.Decimals.{Decimal, numerator_of}
+use Rattle.scaled_decimal.specs.ExactQuotients.{IsPlainDivisor}
+use Rattle.scaled_decimal.specs.WholeNumbers.{IsOfBits, whole_decimal}
+use Rattle.pap_tree.specs.declared.expression.Binary.{Binary}
+use Rattle.pap_tree.specs.declared.expression.Binary.TheVariants as binaries
+use Rattle.pap_tree.specs.declared.expression.Call.{Call}
+use Rattle.pap_tree.specs.declared.expression.Call.TheVariants as calls
+use Rattle.pap_tree.specs.Term as meant
+use Rattle.pap_tree.specs.Term.{Term, operator, method, divide}
+use Rattle.pap_types.specs.declared.kinds.NodeKind.{NodeKind}
+use Rattle.pap_types.specs.Operations.{of_one, of_two}
+use Rattle.pap_types.specs.Safety.{OneFits, TwoFits}
+use Rattle.checked_run.specs.declared.cause.FailureCause.{FailureCause}
+use Rattle.checked_run.specs.declared.cause.FailureCause.TheVariants.{Wide}
+use Rattle.checked_run.specs.declared.steps.One.{One}
+use Rattle.checked_run.specs.declared.steps.One.TheVariants as ones
+use Rattle.checked_run.specs.declared.steps.Two.{Two}
+use Rattle.checked_run.specs.declared.steps.Two.TheVariants as twos
+use Rattle.checked_run.specs.OperationFailures.{OneFails, TwoFails}
+
+-- ---- what is done
+
+abbrev pub one_meant : One → meant.One
+one_meant (ones.Unary op) = meant.unary op
+one_meant ones.ValueOf = meant.value_of
+one_meant (ones.ValueOfScaled s) = meant.value_of_scaled s
+one_meant ones.NewInt = meant.new_big
+one_meant (ones.SetScale s mode) = meant.set_scale s mode
+
+abbrev pub two_meant : Two → meant.Two
+two_meant (twos.Operator op) = operator op
+two_meant (twos.Method m) = method m
+two_meant (twos.Divide s mode) = divide s mode
+
+-- ---- what it is done with
+
+-- the divisor of divide(d) is a plain one
+abbrev pub IsPlainFor : Call → Decimal → Type 0
+IsPlainFor calls.DivideExact b = IsPlainDivisor (numerator_of b)
+IsPlainFor _ b = ⊤
+
+abbrev pub IsPlainForTwo : meant.Two → Decimal → Type 0
+IsPlainForTwo (method m) b = IsPlainFor m b
+IsPlainForTwo _ b = ⊤
+
+-- the operator is a comparison
+abbrev pub IsComparison : Binary → Type 0
+IsComparison binaries.Less = ⊤
+IsComparison binaries.LessEq = ⊤
+IsComparison binaries.More = ⊤
+IsComparison binaries.MoreEq = ⊤
+IsComparison binaries.Same = ⊤
+IsComparison binaries.Differs = ⊤
+IsComparison _ = ⊥
+
+-- the method asks for the order of its operands alone
+abbrev pub IsOrdering : Call → Type 0
+IsOrdering calls.CompareTo = ⊤
+IsOrdering calls.Min = ⊤
+IsOrdering calls.Max = ⊤
+IsOrdering _ = ⊥
+
+-- ---- what is answered
+
+-- a whole number of so many bits, or that it has more
+abbrev pub WholeAnswer : ℕ → ℤ → Result Decimal FailureCause → Type 0
+WholeAnswer bits n (Ok v) = IsOfBits bits n × (v ≡ whole_decimal n)
+WholeAnswer bits n (Err c) = (c ≡ Wide) × ¬ (IsOfBits bits n)
+
+-- the value of an operation that fits, or why it fails
+abbrev pub OneAnswer : meant.One → NodeKind → Term → Decimal → Result Decimal FailureCause → Type 0
+OneAnswer op k t a (Ok v) = OneFits op k a × (v ≡ of_one op t a)
+OneAnswer op k t a (Err c) = OneFails op k a c
+
+abbrev pub TwoAnswer :
+    meant.Two → NodeKind → Decimal → Decimal → Result Decimal FailureCause → Type 0
+TwoAnswer op k a b (Ok v) = TwoFits op k a b × (of_two op a b ≡ Some v)
+TwoAnswer op k a b (Err c) = TwoFails op k a b c

@@ -1,0 +1,19 @@
+//! The run of a plan on any inputs of its types: the values at its end, or the first node that fails, with its cause.
+#![tactic(auto)]
+
+mod cause;
+mod expressions;
+mod failure;
+mod fits;
+mod lists;
+mod names;
+mod operations;
+mod outlines;
+mod run;
+mod statements;
+mod steps;
+mod values;
+
+pub use cause::FailureCause;
+pub use failure::RunFailure;
+pub use run::{RunEnd, checked_run, failures_are_unsafe};
