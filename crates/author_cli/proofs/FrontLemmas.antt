@@ -1,23 +1,26 @@
 -- The answer on what is read of the files is that on their bytes.
 use Rattle.std.proofs.Common.{◌≡◌, ℕ, ◌<◌, List, [], take, inl, inr, refl, sym, ap, ◌∙◌, subst, arith}
-use Rattle.std.specs.Prelude.{Option, Some, None, Ok, Err}
+use Rattle.std.specs.Prelude.{Option, Some, None, Result, Ok, Err}
 use Rattle.std.proofs.lemmas.List.{take_all}
 use Rattle.outside.specs.Told.{FileMap, IsFileFront, IsToldFront}
 use Rattle.pap_reader.specs.declared.fault.ReadFault.{ReadFault}
 use Rattle.pap_reader.specs.Trees.{ElementTree}
 use Rattle.pap_reader.specs.Elements.{IsElements, IsFault}
+use Rattle.limits_file.specs.declared.limits.Limits.{Limits}
+use Rattle.limits_file.specs.Faults.{Fault, too_long, no_toml, bad_key, bad_bound}
+use Rattle.limits_file.specs.RangeFiles.{FileSays, IsNoToml}
 use Rattle.pap_plan.specs.declared.refusal.PlanRefusal.{PlanRefusal}
 use Rattle.pap_plan.specs.declared.refusal.PlanRefusal.TheVariants as refusals
 use Rattle.pap_plan.specs.Acceptance.{Meaning, IsAccepted, IsRefused}
 use Rattle.plan_answers.specs.Fronts.{AreFronts}
-use Rattle.plan_answers.proofs.Laws.{whole, front_there, answers_front, accepted_whole, refusal_answer}
+use Rattle.plan_answers.proofs.Laws.{whole, longer, front_there, answers_front, accepted_whole, refusal_answer}
 use Rattle.plan_notes.specs.Notes.{HasNotes}
 use Rattle.plain_words.specs.Places.{NamedText}
 use Rattle.plain_words.specs.Refusals.{TellsPlan}
 use Rattle.flowchart_page.specs.Verdicts.{file_or_none, files_with, IsJudged}
 use Rattle.flowchart_methods.specs.declared.site.Site.{Site}
 use Rattle.flowchart_page.specs.Findings.{Finding, accepted, in_order, refused, IsFound}
-use Rattle.flowchart_page.specs.Pages.{ArePlanCaptions, Says, Shows, IsPage}
+use Rattle.flowchart_page.specs.Pages.{AreLimits, IsPlanTable, AreTreeTexts, ArePlanTexts, Says, Shows, IsPage}
 use Rattle.author_cli.specs.Words.{chart, chart_within, ranges, compared, traced}
 use Rattle.author_cli.specs.Compared.{IsUnreadable, IsCompared}
 use Rattle.author_cli.specs.Traced.{IsToldRun, IsBlockedRun, IsRefusedRun, IsTraced}
@@ -104,10 +107,18 @@ module _ (n m : ℕ) (more_plan : 1048576 < n) (more_limits : 262144 < m) where
   fault_front : (plan : List ℕ) (fault : ReadFault) → IsFault (take n plan) fault → IsFault plan fault
   fault_front plan fault h = refused_alone plan (refusals.Read fault) h
 
-  captions_front : (plan : List ℕ) (finding : Finding) (site : Site) (captions : List (List ℕ))
-      → ArePlanCaptions (take n plan) finding site captions → ArePlanCaptions plan finding site captions
-  captions_front plan finding site captions (inl h) = inl (h.0, elements_front plan h.0 h.1, h.2, h.3)
-  captions_front plan finding site captions (inr h) = inr (h.0, fault_front plan h.0 h.1, h.2, h.3)
+  file_front : (limits : List ℕ) (x : Result Limits Fault) → FileSays (take m limits) x → FileSays limits x
+  file_front limits (Ok l) h = subst (λ b. FileSays b (Ok l)) (whole 262144 m limits more_limits h.1.short) h
+  file_front limits (Err too_long) h = longer 262144 m limits h
+  file_front limits (Err no_toml) h = subst (λ b. IsNoToml b) (whole 262144 m limits more_limits h.short) h
+  file_front limits (Err (bad_key label)) h =
+      subst (λ b. FileSays b (Err (bad_key label))) (whole 262144 m limits more_limits h.1.short) h
+  file_front limits (Err (bad_bound label)) h =
+      subst (λ b. FileSays b (Err (bad_bound label))) (whole 262144 m limits more_limits h.1.short) h
+
+  limits_front : (limits : List ℕ) (l : Option Limits) → AreLimits (Some (take m limits)) l → AreLimits (Some limits) l
+  limits_front limits (Some l) h = file_front limits (Ok l) h
+  limits_front limits None h = (h.0, file_front limits (Err h.0) h.1)
 
   says_front : (plan : List ℕ) (finding : Finding) (words : Option (List ℕ)) (site : Site) (said : List ℕ)
       → Says (take n plan) finding words site said → Says plan finding words site said
@@ -126,13 +137,38 @@ module _ (n m : ℕ) (more_plan : 1048576 < n) (more_limits : 262144 < m) where
     is = h.is;
   }
 
-  shown_front : (plan : List ℕ) (finding : Finding) (site : Site) (said page : List ℕ)
-      → Shows (take n plan) finding site said page → Shows plan finding site said page
-  shown_front plan finding site said page h = record {
-    captions = h.captions;
-    are_captions = captions_front plan finding site h.captions h.are_captions;
-    whole = h.whole;
-  }
+  -- what is read of the range file says what its part says
+  module _ (plan : List ℕ) (part file : Option (List ℕ)) (says : (l : Option Limits) → AreLimits part l → AreLimits file l)
+      (finding : Finding) (site : Site) where
+    table_front : (tree : ElementTree) (texts : List (List ℕ)) → IsElements (take n plan) tree
+        → IsPlanTable (take n plan) part finding site tree texts → IsPlanTable plan file finding site tree texts
+    table_front tree texts e h = record {
+      notes = h.notes;
+      noted = subst (λ b. HasNotes b h.notes) (whole 1048576 n plan more_plan e.short) h.noted;
+      limits = h.limits;
+      read = says h.limits h.read;
+      table = h.table;
+    }
+
+    tree_front : (tree : ElementTree) (texts : List (List ℕ)) → IsElements (take n plan) tree
+        → AreTreeTexts (take n plan) part finding site tree texts → AreTreeTexts plan file finding site tree texts
+    tree_front tree texts e h = record {
+      names = h.names;
+      table = h.table;
+      is_table = table_front tree h.table e h.is_table;
+      captions = h.captions;
+      are_captions = h.are_captions;
+      is = h.is;
+    }
+
+    texts_front : (texts : List (List ℕ)) → ArePlanTexts (take n plan) part finding site texts
+        → ArePlanTexts plan file finding site texts
+    texts_front texts (inl h) = inl (h.0, elements_front plan h.0 h.1, tree_front h.0 texts h.1 h.2)
+    texts_front texts (inr h) = inr (h.0, fault_front plan h.0 h.1, h.2, h.3)
+
+    shown_front : (said page : List ℕ) → Shows (take n plan) part finding site said page
+        → Shows plan file finding site said page
+    shown_front said page h = record { texts = h.texts; are_texts = texts_front h.texts h.are_texts; whole = h.whole }
 
   page_front : (plan limits : List ℕ) (words : Option (List ℕ)) (page : List ℕ)
       → IsPage (take n plan) (Some (take m limits)) words page → IsPage plan (Some limits) words page
@@ -142,7 +178,7 @@ module _ (n m : ℕ) (more_plan : 1048576 < n) (more_limits : 262144 < m) where
     site = h.site;
     verdict = h.verdict;
     says = says_front plan h.finding words h.site h.verdict h.says;
-    shown = shown_front plan h.finding h.site h.verdict page h.shown;
+    shown = shown_front plan (Some (take m limits)) (Some limits) (limits_front limits) h.finding h.site h.verdict page h.shown;
   }
 
   page_alone : (plan : List ℕ) (words : Option (List ℕ)) (page : List ℕ) → IsPage (take n plan) None words page
@@ -153,7 +189,7 @@ module _ (n m : ℕ) (more_plan : 1048576 < n) (more_limits : 262144 < m) where
     site = h.site;
     verdict = h.verdict;
     says = says_front plan h.finding words h.site h.verdict h.says;
-    shown = shown_front plan h.finding h.site h.verdict page h.shown;
+    shown = shown_front plan None None (λ l said. said) h.finding h.site h.verdict page h.shown;
   }
 
   chart_front : (plan limits : NamedText) (a : Answer) → IsChart (front n plan) (Some (front m limits)) a
