@@ -16,7 +16,7 @@ MAY = {
     "two programs make the same promises of their own words and objects":
         "Carries HasForm HaveOneForm Headline IsBad Leaves Outside outside_of texts",
     "how a program ends, or what it says of a refusal, each in its own way":
-        "IsAnswered refused_text stop_of stop_of_file",
+        "IsAnswered stop_of stop_of_file",
     "the same is said of another text":
         "Earns HasOneAnswer IsAccepted IsFaultOrMemory IsFirstFault IsReadable IsToken Token fault_text place_text",
     "of the bytes of a text, and of its tokens":

@@ -39,14 +39,16 @@ def run_in_pieces(script, size):
 
 
 def answers_before_the_next_line():
-    with subprocess.Popen([program, "run"], stdin=subprocess.PIPE, stdout=subprocess.PIPE, stderr=subprocess.DEVNULL, bufsize=0) as process:
-        for line, answer in [(b"work\n", b"work 0 0\n"), (b"ad E1\n", b"refused line Command\n"), (b"work\n", b"work 0 0\n")]:
+    """Each answer, and the reason of a refused line, comes before the next line is sent."""
+    with subprocess.Popen([program, "run"], stdin=subprocess.PIPE, stdout=subprocess.PIPE, stderr=subprocess.PIPE, bufsize=0) as process:
+        for line, answer, reason in [(b"work\n", b"work 0 0\n", None), (b"owed\n", b"refused file NothingFiled\n", b"stdin:2: no month was filed\n"),
+                                     (b"work\n", b"work 0 0\n", None)]:
             process.stdin.write(line)
-            if process.stdout.readline() != answer:
+            if process.stdout.readline() != answer or (reason and process.stderr.readline() != reason):
                 process.kill()
                 return False
         process.stdin.close()
-        return process.wait() == 1
+        return process.wait() == 1 and process.stderr.read() == b""
 
 
 program = os.path.abspath(sys.argv[1])
@@ -55,7 +57,7 @@ check("the month's script ends well", whole[0] == 0)
 check("the month's last edit ran one run", b"\nwork 1 " in whole[1])
 check("pieces of 1 byte", run_in_pieces(SCRIPT, 1) == whole)
 check("pieces of 7 bytes", run_in_pieces(SCRIPT, 7) == whole)
-check("an answer comes before the next line", answers_before_the_next_line())
+check("an answer and its reason come before the next line", answers_before_the_next_line())
 check("no script", run(b"") == (0, b""))
 check("a last line without LF", run(b"work") == (0, b"work 0 0\n"))
 check("a CR before LF", run(b"work\r\nwork") == (0, b"work 0 0\nwork 0 0\n"))
@@ -76,8 +78,9 @@ check("a line that is too long is answered once", run(b"#" * 65_537 + b"\nwork\n
 TOLD = "stdin:{}: the first word is no command: plan, drop, add, change, withdraw, load, report, work, trace, file, owed, open or try; a script has no byte order mark before its first word\n"
 for word in ["run", "save"]:
     done = subprocess.run([program, word], input=b"# ab\n\n" + b"ab\nwork\n" * 30, capture_output=True, text=False, timeout=300)
-    said = "".join(TOLD.format(3 + 2 * number) for number in range(20)) + "and 10 more\n"
-    check(f"the refused lines of {word} are told", done.returncode == 1 and done.stderr.decode().startswith(said))
+    said = "".join(TOLD.format(3 + 2 * number) for number in range(30))
+    check(f"the refused lines of {word} are told",
+          done.returncode == 1 and done.stderr.decode().startswith(said + "papcalc: 30 lines were refused\n"))
     done = subprocess.run([program, word], input=b"# ab\n\n" + b"ab\nwork\n" * 30 + b"load nofile\nab\n", capture_output=True, timeout=300)
     said += "stdin:63: the file `nofile`: there is no such file; the script ends here\n"
     check(f"the refused lines of {word} before a file that isn't there are told", done.returncode == 3 and done.stderr.decode() == said)

@@ -8,7 +8,7 @@ use Rattle.outside.specs.declared.traits.FileAnswer.{FileAnswer}
 use Rattle.outside.specs.declared.traits.FileAnswer.TheVariants as files
 use Rattle.pap_cli.specs.declared.status.Status.{Status}
 use Rattle.pap_cli.specs.declared.status.Status.TheVariants.{Done, Refused, BadWords, FileFault, ReadFault, WriteFault, NoMemory, ScriptLong}
-use Rattle.script_run.specs.declared.refused_lines.RefusedLines.{RefusedLines}
+use Rattle.script_run.specs.Notes.{Telling}
 use Rattle.script_run.specs.declared.stop.Stop.{Stop}
 use Rattle.script_run.specs.declared.stop.Stop.TheVariants as stops
 use Rattle.script_run.specs.Stops.{stop_of_file}
@@ -135,7 +135,7 @@ leaves_answer Answers plan limits told told' failed failed' first began answer m
 -- ---- by form
 
 -- the same of all that the outside shows
-pub leaves_form : (c : Command) (plan limits : List ℕ) (before after : Outside) (lines : RefusedLines) (status : Status) →
+pub leaves_form : (c : Command) (plan limits : List ℕ) (before after : Outside) (lines : Telling) (status : Status) →
     LeavesOnFiles (answers_of c) plan limits (shown before.files before.failed before.written before.steps) (shown after.files after.failed after.written after.steps) status →
     Leaves (form_by c plan limits) before after lines status
 leaves_form Check plan limits before after lines status h = h
@@ -156,7 +156,7 @@ headline_on Answers plan limits before after status h file write files told writ
     }
 
 -- the headline of each form, from what each status says
-pub headline_form : (c : Command) (plan limits : List ℕ) (before after : Outside) (lines : RefusedLines) (status : Status) →
+pub headline_form : (c : Command) (plan limits : List ℕ) (before after : Outside) (lines : Telling) (status : Status) →
     Leaves (form_by c plan limits) before after lines status →
     (status ≡ FileFault → Rose before.file_faults after.file_faults) → (status ≡ WriteFault → Rose before.sink_faults after.sink_faults) → Headline (form_by c plan limits) before after status
 headline_form Check plan limits before after lines status h file write = headline_on (answers_of Check) plan limits before after status h file write
@@ -182,7 +182,7 @@ leaves_want c plan limits front front' told told' failed failed' first began ste
     (leaves_memory (answers_of c) plan limits told told' failed failed' first began steps kept (more_counted (answers_of c front front') began steps counted) (λ files e. counted_both c plan limits front front' files began steps (read files e) counted))
 
 -- memory ran out before anything was touched
-leaves_none : (form : Form) (o : Outside) (lines : RefusedLines) → Leaves form o o lines NoMemory
+leaves_none : (form : Form) (o : Outside) (lines : Telling) → Leaves form o o lines NoMemory
 leaves_none (check plan limits) o lines = leaves_form Check plan limits o o lines NoMemory (leaves_memory CheckAnswers plan limits o.files o.files o.failed o.failed o.written o.steps o.steps refl (omega arith) (λ files e. inl refl))
 leaves_none (once plan limits values) o lines = leaves_form (Once values) plan limits o o lines NoMemory (leaves_memory (OnceAnswers values) plan limits o.files o.files o.failed o.failed o.written o.steps o.steps refl (omega arith) (λ files e. inl refl))
 leaves_none run o lines = script_none o lines
@@ -196,5 +196,5 @@ headline_none run o = λ files t script s written w short memory. absurd (memory
 headline_none (sample employees) o = λ written w memory. absurd (memory refl)
 headline_none save o = λ files t script s written w short memory. absurd (memory refl)
 
-pub carries_none : (form : Form) (o : Outside) (lines : RefusedLines) → Carries form o o lines NoMemory
+pub carries_none : (form : Form) (o : Outside) (lines : Telling) → Carries form o o lines NoMemory
 carries_none form o lines = record { leaves = leaves_none form o lines; headline = headline_none form o }

@@ -1,10 +1,9 @@
 -- The reason of a refusal, and the notes that it is put to.
 use Rattle.std.proofs.Common.{◌≡◌, ◌≢◌, ◌∙◌, ℕ, ◌∷◌, ◌++◌, Bool, true, false, List, [], refl, sym, ap, subst, inl, inr, arith}
-use Rattle.std.specs.Prelude.{⊤, Option, Some, None, IfSome, is_some, Result, Ok, Err, OnOk, String, string_bytes}
+use Rattle.std.specs.Prelude.{Option, Some, None, IfSome, is_some, Result, Ok, Err, String, string_bytes}
 use Rattle.std.specs.declared.alloc.Global.{Global}
 use Rattle.std.proofs.lemmas.Bool.{false≢true}
-use Rattle.outside.specs.Causes.{HasCause}
-use Rattle.outside.specs.Told.{FileMap, Appends}
+use Rattle.outside.specs.Told.{FileMap}
 use Rattle.outside.specs.declared.traits.Sink.{Ghosts as SinkTells}
 use Rattle.pap_tree.specs.Flowchart.{Flowchart}
 use Rattle.payroll_records.specs.declared.values.NamedValue.{NamedValue}
@@ -28,15 +27,15 @@ use Rattle.pap_cli.specs.declared.status.Status.{Status}
 use Rattle.pap_cli.specs.declared.status.Status.TheVariants.{NoMemory, Refused}
 use Rattle.pap_cli.specs.declared.words.Command.{Command}
 use Rattle.pap_cli.specs.declared.words.Command.TheVariants.{Check, Once}
-use Rattle.pap_cli.specs.Notes.{NotesShown, NotesTell, AreNoted, HasReason}
+use Rattle.script_run.specs.Notes.{NotesShown, AreNoted}
+use Rattle.pap_cli.specs.Notes.{NotesTell, HasReason}
 use Rattle.pap_cli.specs.Reasons.{IsReasonLine, TellsOnce, files_on}
 use Rattle.pap_cli.specs.RunAnswers.{IsRunOn}
-use Rattle.pap_cli.specs.ScriptWords.{AsksOfFiles}
+use Rattle.pap_cli.specs.ScriptWords.{AsksOfFiles, ReadsScript}
 use Rattle.pap_cli.specs.Statuses.{status_of}
 use Rattle.pap_cli.specs.Words.{Form, HasForm}
 use Rattle.pap_cli.specs.private.ReasonViews.{HasReasonOn, IsLineOf, IsPlanReason, IsStateReason, TellsFilled, TellsOn}
 use Rattle.pap_cli.specs.private.WordViews.{form_by}
-use Rattle.pap_cli.proofs.StatusLemmas.{rose_and_still}
 use Rattle.pap_cli.proofs.WordLemmas.{one_form}
 
 -- ---- a run without inputs
@@ -117,13 +116,6 @@ reason_line Tells plan limits told bytes ranges read text h =
 
 -- ---- notes
 
--- what was put to them, where no call failed
-pub noted : {E : Type 0} (r : Result ⊤ E) (before after : NotesShown) (text : List ℕ) → OnOk r (Appends before.written after.written text)
-    → HasCause before.faults after.faults r → AreNoted before after text
-noted (Ok x) before after text ok cause = record { later = cause.later; put = λ still. ok }
-noted (Err e) before after text ok cause =
-    record { later = cause.later; put = λ still. absurd (rose_and_still before.faults after.faults cause.failed still) }
-
 pub put_on : (reason : Option (String Global)) (c : Command) (plan limits : List ℕ) (told : Option FileMap) (before after : NotesShown)
     → is_some reason ≡ true
     → IfSome reason (λ line. IsReasonLine (TellsOn c) plan limits told (string_bytes line))
@@ -162,11 +154,20 @@ refused_ok (Err stops.Long) e = cc
 pub not_refused : NoMemory ≢ Refused
 not_refused e = cc
 
--- words that ask for no answer on two files put nothing to the notes
+-- words that ask for no answer on two files and for no script put nothing to the notes
 pub notes_kept : {N : Type 0} (of_notes : SinkTells N) (words : List (List ℕ)) (told : Option FileMap) (notes : N) (status : Status) (own : Form)
     → HasForm words own → ¬ (AsksOfFiles own) → NotesTell of_notes words told notes notes status
 notes_kept of_notes words told notes status own is not = record {
   reason = λ form has asked refused. absurd (not (subst AsksOfFiles (one_form words form own has is) asked));
-  silent = λ other. refl;
-  other = λ form has none. refl;
+  silent = λ none other. refl;
+  other = λ form has none unread. refl;
+}
+
+-- of words that ask for a script nothing is said here
+pub notes_told : {N : Type 0} (of_notes : SinkTells N) (words : List (List ℕ)) (told : Option FileMap) (before after : N) (status : Status)
+    (own : Form) → HasForm words own → ¬ (AsksOfFiles own) → ReadsScript own → NotesTell of_notes words told before after status
+notes_told of_notes words told before after status own is not reads = record {
+  reason = λ form has asked refused. absurd (not (subst AsksOfFiles (one_form words form own has is) asked));
+  silent = λ none other. absurd (none (record { form = own; has = is; reads = reads }));
+  other = λ form has none unread. absurd (unread (subst ReadsScript (one_form words own form is has) reads));
 }

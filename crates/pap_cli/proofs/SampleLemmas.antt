@@ -5,7 +5,7 @@ use Rattle.outside.specs.Causes.{Rose}
 use Rattle.outside.specs.Told.{Appends, AppendsShort}
 use Rattle.outside.proofs.Laws.{Appends-nothing}
 use Rattle.plan_answers.specs.Answers.{Answer}
-use Rattle.script_run.specs.RefusedLines.{tells_one}
+use Rattle.script_run.specs.LineCounts.{counts_one}
 use Rattle.script_run.specs.RunClauses.{IsFinished, IsSpentWithin}
 use Rattle.script_run.specs.Samples.{sample_lines, script_of}
 use Rattle.script_run.specs.SampleFiles.{sample_files}
@@ -76,14 +76,14 @@ module _ (employees began steps : ℕ) (first written : Option (List ℕ)) (ende
   whole_text = text_is ∙ ap (λ v. summary_text employees v) is.left
 
   -- its summary was written whole
-  pub leaves_whole : Appends first written text → LeavesOnSample employees (output first began) (output written steps) (done_status (tells_one ended.refused_lines))
+  pub leaves_whole : Appends first written text → LeavesOnSample employees (output first began) (output written steps) (done_status (counts_one ended.counts))
   leaves_whole appended =
       let cost : steps ≡ began + (is.session).steps = is.cost in
       record {
         out = text;
         appended = appended;
         counted = omega arith;
-        ends = ends_whole employees (output first began) (output written steps) text (tells_one ended.refused_lines)
+        ends = ends_whole employees (output first began) (output written steps) text (counts_one ended.counts)
             (record { answer = answer_of employees is.session; is = sampled employees is.session is.is; text = whole_text; cost = omega arith; ended = ap (λ r. done_status r) is.mark });
       }
 

@@ -10,18 +10,19 @@ use Rattle.plan_answers.specs.Replies.{reply_of}
 use Rattle.plan_answers.specs.declared.reply.Reply.{Reply}
 use Rattle.script_steps.specs.Steps.{Standing}
 use Rattle.script_run.specs.Limits.{most_script}
-use Rattle.script_run.specs.RefusedLines.{tells_one}
-use Rattle.script_steps.specs.Shown.{OutsideShown}
+use Rattle.script_run.specs.LineCounts.{counts_one}
+use Rattle.script_run.specs.Notes.{NotesShown, Telling, with_notes}
 use Rattle.script_run.specs.RunClauses.{RunMeets, RunResult, EndsUnwritten}
 use Rattle.script_run.specs.Transcripts.{Session}
 use Rattle.script_run.specs.declared.turns.Unwritten.{Unwritten}
-use Rattle.script_run.specs.declared.refused_lines.RefusedLines.{RefusedLines}
+use Rattle.script_run.specs.declared.line_counts.LineCounts.{LineCounts}
 use Rattle.script_run.specs.declared.stop.Stopped.{Stopped}
 use Rattle.script_run.specs.declared.stop.Stop.TheVariants as stops
 use Rattle.script_run.proofs.Laws.{one}
 use Rattle.pap_cli.specs.declared.status.Status.{Status}
 use Rattle.pap_cli.specs.declared.status.Status.TheVariants.{FileFault, ReadFault, WriteFault, NoMemory}
 use Rattle.pap_cli.specs.Statuses.{done_status, status_of}
+use Rattle.pap_cli.specs.Notes.{AreSummed}
 use Rattle.pap_cli.specs.Outside.{Outside}
 use Rattle.recalc_engine.specs.Contents.{Contents}
 use Rattle.book_file.specs.Saving.{SaveSays}
@@ -29,6 +30,7 @@ use Rattle.book_file.specs.declared.refusal.SaveRefusal.TheVariants as unsaved
 use Rattle.pap_cli.specs.SaveAnswers.{Written, IsBookWritten, IsSave, SaveAnswers, was_filed}
 use Rattle.pap_cli.specs.SaveClauses.{unwritten, IsSaveEnd, SaveEnds, LeavesOnSave, IsSavedWhole, HeadlineOnSave}
 use Rattle.pap_cli.specs.private.SaveViews.{written_of}
+use Rattle.pap_cli.proofs.ScriptLemmas.{lost, no_more}
 use Rattle.pap_cli.proofs.StatusLemmas.{appended_told, long_stop, no_write, not_long, rose_and_still, written_whole}
 
 -- ---- a script that was answered to its end
@@ -37,8 +39,8 @@ use Rattle.pap_cli.proofs.StatusLemmas.{appended_told, long_stop, no_write, not_
 abbrev save_of : (reply : Reply) → ℕ → Answer
 save_of reply steps = record { text = reply.text.items; refused = reply.refused; steps = steps }
 
-same_save : (ended : Unwritten) (session : Session) (reply : Reply) → tells_one ended.refused_lines ≡ session.refused → (ended.refusals).items ≡ session.refusals → ended.script ≡ session.standing →
-    IsSave (tells_one ended.refused_lines) (was_filed ended.script) (ended.refusals).items (ended.script).book (written_of reply) →
+same_save : (ended : Unwritten) (session : Session) (reply : Reply) → counts_one ended.counts ≡ session.refused → (ended.refusals).items ≡ session.refusals → ended.script ≡ session.standing →
+    IsSave (counts_one ended.counts) (was_filed ended.script) (ended.refusals).items (ended.script).book (written_of reply) →
     IsSave session.refused (was_filed session.standing) session.refusals (session.standing).book (written_of reply)
 same_save ended session reply p q r h =
     subst (λ v. IsSave session.refused (was_filed v) session.refusals v.book (written_of reply)) r
@@ -53,9 +55,9 @@ pub record IsSavedWith (files : FileMap) (script : List ℕ) (reply : Reply) (sp
   pub refused : reply.refused ≡ answer.refused
   pub cost : spent ≡ answer.steps
 
-pub saved_with : (before after : Outside) {script : List ℕ} (files : FileMap) (ended : Unwritten) (reply : Reply) →
-    RunMeets (unwritten before) (unwritten after) script after.left (Ok ended.refused_lines) → EndsUnwritten files script ended → before.files ≡ Some files →
-    IsSave (tells_one ended.refused_lines) (was_filed ended.script) (ended.refusals).items (ended.script).book (written_of reply) → IsSavedWith files script reply (after.steps - before.steps)
+pub saved_with : (before after : Outside) {first notes : NotesShown} {script : List ℕ} (files : FileMap) (ended : Unwritten) (reply : Reply) →
+    RunMeets (with_notes (unwritten before) first) (with_notes (unwritten after) notes) script after.left (Ok ended.counts) → EndsUnwritten files script ended → before.files ≡ Some files →
+    IsSave (counts_one ended.counts) (was_filed ended.script) (ended.refusals).items (ended.script).book (written_of reply) → IsSavedWith files script reply (after.steps - before.steps)
 saved_with before after {script = script} files ended reply meets ends told save =
     let whole = meets.leaves.tells.whole files told in
     let same = one files script whole.session ends.session whole.is ends.is in
@@ -74,18 +76,21 @@ saved_with before after {script = script} files ended reply meets ends told save
       cost = whole.cost ∙ ap (λ v. v.steps) same;
     }
 
-module _ (before after : Outside) (ended : Unwritten) (reply : Reply)
-    (meets : ForSome before.left (λ script. RunMeets (unwritten before) (unwritten after) script after.left (Ok ended.refused_lines)))
+module _ (before after : Outside) (ended : Unwritten) (reply : Reply) (first notes last : NotesShown)
+    (meets : ForSome before.left (λ script.
+    RunMeets (with_notes (unwritten before) first) (with_notes (unwritten after) notes) script after.left (Ok ended.counts)))
     (ends : ForSome before.left (λ script. ForSome before.files (λ files. EndsUnwritten files script ended)))
-    (save : IsSave (tells_one ended.refused_lines) (was_filed ended.script) (ended.refusals).items (ended.script).book (written_of reply))
-    (kept : after.failed ≡ before.failed) where
+    (save : IsSave (counts_one ended.counts) (was_filed ended.script) (ended.refusals).items (ended.script).book (written_of reply))
+    (summed : AreSummed ended.counts notes last) (kept : after.failed ≡ before.failed) where
   -- the answer was written whole
   pub leaves_whole : Appends before.written after.written reply.text.items →
-      LeavesOnSave before after ended.refused_lines (done_status reply.refused)
+      LeavesOnSave before after (record { counts = ended.counts; before = first; after = last }) (done_status reply.refused)
   leaves_whole appended = record {
-    result = Ok ended.refused_lines;
-    told_is = refl;
+    result = Ok ended.counts;
+    counts = refl;
+    notes = notes;
     meets = meets;
+    summed = summed;
     out = reply.text.items;
     appended = appended;
     ends = record {
@@ -100,12 +105,14 @@ module _ (before after : Outside) (ended : Unwritten) (reply : Reply)
 
   -- the sink failed
   pub leaves_cut : AppendsShort before.written after.written reply.text.items →
-      LeavesOnSave before after ended.refused_lines WriteFault
+      LeavesOnSave before after (record { counts = ended.counts; before = first; after = last }) WriteFault
   unfolding saved_with
   leaves_cut part = record {
-    result = Ok ended.refused_lines;
-    told_is = refl;
+    result = Ok ended.counts;
+    counts = refl;
+    notes = notes;
     meets = meets;
+    summed = summed;
     out = take part.count reply.text.items;
     appended = part.appended;
     ends = record {
@@ -140,54 +147,41 @@ long_book refused standing refusals book reply p q b says is =
 
 -- ---- a stop before the end
 
--- memory ran out, and this is told
-abbrev lost : RefusedLines → Stopped
-lost lines = record { stop = stops.Memory; refused_lines = lines }
-
-no_more : {before after : OutsideShown} {script : List ℕ} {left : Option (List ℕ)} {lines : RefusedLines} →
-    RunMeets before after script left (Ok lines) → RunMeets before after script left (Err (lost lines))
-no_more meets = record {
-  taken = meets.taken;
-  rest = meets.rest;
-  split = meets.split;
-  left_rest = meets.left_rest;
-  within = λ e. meets.within (λ k. cc);
-  leaves = record {
-    out = meets.leaves.out;
-    appended = meets.leaves.appended;
-    counted = meets.leaves.counted;
-    front = meets.leaves.front;
-    tells = tt;
-  };
-}
-
-pub leaves_stop : (before after : Outside) (stopped : Stopped) →
-    ForSome before.left (λ script. RunMeets (unwritten before) (unwritten after) script after.left (Err stopped)) →
+pub leaves_stop : (before after : Outside) (first last : NotesShown) (stopped : Stopped) →
+    ForSome before.left (λ script.
+    RunMeets (with_notes (unwritten before) first) (with_notes (unwritten after) last) script after.left (Err stopped)) →
     after.written ≡ before.written → (stopped.stop ≢ stops.File → after.failed ≡ before.failed) →
-    stopped.stop ≢ stops.Write → LeavesOnSave before after stopped.refused_lines (status_of (Err stopped.stop))
-leaves_stop before after stopped meets same kept no_write = record {
+    stopped.stop ≢ stops.Write →
+    LeavesOnSave before after (record { counts = stopped.counts; before = first; after = last }) (status_of (Err stopped.stop))
+leaves_stop before after first last stopped meets same kept no_write = record {
   result = Err stopped;
-  told_is = refl;
+  counts = refl;
+  notes = last;
   meets = meets;
+  summed = refl;
   out = [];
   appended = subst (λ w. Appends before.written w []) (sym same) (Appends-nothing before.written);
   ends = record { nothing = refl; ended = refl; not_at_sink = no_write };
   kept = λ e. kept (λ s. e (ap (λ v. status_of (Err v)) s));
 }
 
--- memory ran out after the script was answered
-pub leaves_unsaid : (before after : Outside) (lines : RefusedLines) →
-    ForSome before.left (λ script. RunMeets (unwritten before) (unwritten after) script after.left (Ok lines)) →
-    after.written ≡ before.written → after.failed ≡ before.failed → LeavesOnSave before after lines NoMemory
-leaves_unsaid before after lines meets same kept =
-    leaves_stop before after (lost lines) (λ script left. no_more (meets script left)) same (λ e. kept) (λ e. cc)
+-- memory ran out behind its end
+pub leaves_unsaid : (before after : Outside) (counts : LineCounts) (first notes last : NotesShown) →
+    ForSome before.left (λ script.
+    RunMeets (with_notes (unwritten before) first) (with_notes (unwritten after) notes) script after.left (Ok counts)) →
+    after.written ≡ before.written → after.failed ≡ before.failed →
+    LeavesOnSave before after (record { counts = counts; before = first; after = last }) NoMemory
+leaves_unsaid before after counts first notes last meets same kept =
+    leaves_stop before after first last (lost counts) (λ script left. no_more last (meets script left)) same (λ e. kept)
+    (λ e. cc)
 
 -- memory ran out before anything was touched
-pub save_none : (o : Outside) (lines : RefusedLines) → LeavesOnSave o o lines NoMemory
+pub save_none : (o : Outside) (lines : Telling) → LeavesOnSave o o lines NoMemory
 save_none o lines =
     record {
-      result = Err (lost lines);
-      told_is = refl;
+      result = Err (lost lines.counts);
+      counts = refl;
+      notes = lines.after;
       meets = λ script left. record {
         taken = [];
         rest = script;
@@ -202,6 +196,7 @@ save_none o lines =
           tells = tt;
         };
       };
+      summed = refl;
       out = [];
       appended = Appends-nothing o.written;
       ends = record { nothing = refl; ended = refl; not_at_sink = λ e. cc };
@@ -211,8 +206,8 @@ save_none o lines =
 -- ---- the headline
 
 -- the script was answered to its end
-at_end : (before after : Outside) (script written : List ℕ) (files : FileMap) (out : List ℕ) (status : Status) (lines : RefusedLines) →
-    RunMeets (unwritten before) (unwritten after) script after.left (Ok lines) →
+at_end : (before after : Outside) {first notes : NotesShown} (script written : List ℕ) (files : FileMap) (out : List ℕ) (status : Status) (lines : LineCounts) →
+    RunMeets (with_notes (unwritten before) first) (with_notes (unwritten after) notes) script after.left (Ok lines) →
     IsSaveEnd before after out status → Appends before.written after.written out → (status ≡ WriteFault → ⊥) →
     before.files ≡ Some files → before.left ≡ Some script → before.written ≡ Some written → IsSavedWhole files script written before after status
 at_end before after script written files out status lines meets end appended no_fault told left said =
@@ -229,8 +224,8 @@ at_end before after script written files out status lines meets end appended no_
       ended = whole.ended;
     }
 
-headline_by : (before after : Outside) (script written : List ℕ) (files : FileMap) (out : List ℕ) (status : Status) (r : RunResult) →
-    RunMeets (unwritten before) (unwritten after) script after.left r →
+headline_by : (before after : Outside) {first notes : NotesShown} (script written : List ℕ) (files : FileMap) (out : List ℕ) (status : Status) (r : RunResult) →
+    RunMeets (with_notes (unwritten before) first) (with_notes (unwritten after) notes) script after.left r →
     SaveEnds before after out status r → Appends before.written after.written out →
     (status ≡ FileFault → ⊥) → (status ≡ ReadFault → ⊥) → (status ≡ WriteFault → ⊥) → (status ≡ NoMemory → ⊥) → length script ≤ most_script →
     before.files ≡ Some files → before.left ≡ Some script → before.written ≡ Some written → IsSavedWhole files script written before after status
@@ -241,7 +236,7 @@ headline_by before after script written files out status (Err stopped) meets end
     (λ e. file (ends.ended ∙ e)) (λ e. read (ends.ended ∙ e)) (λ e. write (ends.ended ∙ e)) (λ e. memory (ends.ended ∙ e)))
     meets short)
 
-pub headline_save : (before after : Outside) (lines : RefusedLines) (status : Status) →
+pub headline_save : (before after : Outside) (lines : Telling) (status : Status) →
     LeavesOnSave before after lines status →
     (status ≡ FileFault → Rose before.file_faults after.file_faults) → (status ≡ ReadFault → Rose before.source_faults after.source_faults) →
     (status ≡ WriteFault → Rose before.sink_faults after.sink_faults) → HeadlineOnSave before after status

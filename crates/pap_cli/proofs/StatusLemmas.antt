@@ -3,7 +3,7 @@ use Rattle.std.proofs.Common.{◌≡◌, ◌≢◌, ℕ, ◌+◌, ◌≤◌, Boo
 use Rattle.std.specs.Prelude.{Option, Some, None, Result, Ok, Err}
 use Rattle.outside.specs.Causes.{Rose, Still}
 use Rattle.outside.specs.Told.{Appends, FileMap}
-use Rattle.script_steps.specs.Shown.{OutsideShown}
+use Rattle.script_run.specs.Notes.{RunShown}
 use Rattle.script_run.specs.Limits.{most_script}
 use Rattle.script_run.specs.RunClauses.{Course, RunMeets, RunSays}
 use Rattle.script_run.specs.declared.stop.Stop.{Stop}
@@ -67,7 +67,7 @@ past_limit most told course failed stop long says =
     let at_limit = subst (λ s. RunSays most told course failed (Err s)) long says in
     at_limit.past
 
-pub not_long : {before after : OutsideShown} {left : Option (List ℕ)} (script : List ℕ) (stopped : Stopped) →
+pub not_long : {before after : RunShown} {left : Option (List ℕ)} (script : List ℕ) (stopped : Stopped) →
     stopped.stop ≡ stops.Long → RunMeets before after script left (Err stopped) → length script ≤ most_script → ⊥
 not_long script stopped long meets short = omega (
   arith,

@@ -4,7 +4,7 @@ use Rattle.outside.specs.Causes.{Rose}
 use Rattle.outside.specs.declared.traits.Files.{Ghosts as FilesTell}
 use Rattle.outside.specs.declared.traits.Sink.{Ghosts as SinkTells}
 use Rattle.outside.specs.declared.traits.Source.{Ghosts as SourceTells}
-use Rattle.script_run.specs.declared.refused_lines.RefusedLines.{RefusedLines}
+use Rattle.script_run.specs.Notes.{Telling}
 use Rattle.pap_cli.specs.declared.status.Status.{Status}
 use Rattle.pap_cli.specs.declared.status.Status.TheVariants.{BadWords, FileFault, NoMemory, ReadFault, WriteFault}
 use Rattle.pap_cli.specs.Words.{Form, check, once, run, sample, save, HasForm, IsBad}
@@ -36,8 +36,8 @@ pub record IsCaused (before after : Outside) (status : Status) : Type 0 where
   pub read : status ≡ ReadFault → Rose before.source_faults after.source_faults
   pub write : status ≡ WriteFault → Rose before.sink_faults after.sink_faults
 
--- what each status says of the text, of the counter, of the failed name and of the refused lines
-abbrev pub Leaves : Form → Outside → Outside → RefusedLines → Status → Type 0
+-- what each status says of the text, of the counter, of the failed name, and of what is told of refused lines
+abbrev pub Leaves : Form → Outside → Outside → Telling → Status → Type 0
 Leaves (check plan limits) before after told status =
     LeavesOnFiles CheckAnswers plan limits (shown_of before) (shown_of after) status
 Leaves (once plan limits values) before after told status =
@@ -55,7 +55,7 @@ Headline (sample employees) before after status = HeadlineOnSample employees bef
 Headline save before after status = HeadlineOnSave before after status
 
 -- what the call leaves that carries out words of this form
-pub record Carries (form : Form) (before after : Outside) (told : RefusedLines) (status : Status) : Type 0 where
+pub record Carries (form : Form) (before after : Outside) (told : Telling) (status : Status) : Type 0 where
   pub leaves : Leaves form before after told status
   pub headline : Headline form before after status
 
@@ -64,7 +64,7 @@ pub record Carries (form : Form) (before after : Outside) (told : RefusedLines) 
 -- count rose; and words that have a form leave what `Carries` says
 pub record CallTells
     {F R W : Type 0} (of_files : FilesTell F) (of_source : SourceTells R) (of_sink : SinkTells W)
-    (words : List (List ℕ)) (before after : Objects F R W) (told : RefusedLines) (status : Status) : Type 0 where
+    (words : List (List ℕ)) (before after : Objects F R W) (told : Telling) (status : Status) : Type 0 where
   pub bad_words : TellsBadWords words status
   pub touches : TouchesOnly words before after
   pub files_same : of_files.told after.files ≡ of_files.told before.files
@@ -73,14 +73,8 @@ pub record CallTells
   pub carries : (form : Form) → HasForm words form → Carries form
       (outside_of of_files of_source of_sink before) (outside_of of_files of_source of_sink after) told status
 
--- what `papcalc` meets: all of `CallTells`, whichever refused lines would be told
+-- what `papcalc` meets: all of `CallTells`, whatever would be told of refused lines
 abbrev pub CallMeets : {F R W : Type 0} → FilesTell F → SourceTells R → SinkTells W
     → List (List ℕ) → Objects F R W → Objects F R W → Status → Type 0
 CallMeets of_files of_source of_sink words before after status =
-    (told : RefusedLines) × CallTells of_files of_source of_sink words before after told status
-
--- the words ask for a script to be carried out, by `run` or by `save`
-pub record AskForScript (words : List (List ℕ)) : Type 0 where
-  pub form : Form
-  pub has : HasForm words form
-  pub reads : ReadsScript form
+    (told : Telling) × CallTells of_files of_source of_sink words before after told status

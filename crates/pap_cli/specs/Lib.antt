@@ -13,7 +13,6 @@ pub mod Outside
 pub mod Statuses
 pub mod Notes
 pub mod Reasons
-pub mod RefusedTexts
 pub mod Words
 pub mod BadWords
 pub mod ScriptWords

@@ -6,13 +6,14 @@ use Rattle.outside.specs.Told.{FileMap, Appends}
 use Rattle.plan_answers.specs.Answers.{Answer}
 use Rattle.script_run.specs.Limits.{most_script}
 use Rattle.script_steps.specs.Shown.{OutsideShown, shown}
-use Rattle.script_run.specs.RunClauses.{RunMeets, RunResult, told_of}
-use Rattle.script_run.specs.declared.refused_lines.RefusedLines.{RefusedLines}
+use Rattle.script_run.specs.Notes.{NotesShown, Telling, with_notes}
+use Rattle.script_run.specs.RunClauses.{RunMeets, RunResult, counts_of}
 use Rattle.script_run.specs.declared.stop.Stop.{Stop}
 use Rattle.script_run.specs.declared.stop.Stop.TheVariants as stops
 use Rattle.pap_cli.specs.declared.status.Status.{Status}
 use Rattle.pap_cli.specs.declared.status.Status.TheVariants as statuses
 use Rattle.pap_cli.specs.Statuses.{done_status, status_of, IsDone}
+use Rattle.pap_cli.specs.Notes.{SumsUp}
 use Rattle.pap_cli.specs.Outside.{Outside}
 use Rattle.pap_cli.specs.FileClauses.{IsWrittenWhole, IsWrittenShort}
 use Rattle.pap_cli.specs.SaveAnswers.{SaveAnswers}
@@ -37,16 +38,18 @@ pub record IsSaveStop (out : List ℕ) (status : Status) (stop : Stop) : Type 0 
 
 -- what `save` leaves, by how the run of its script ended
 abbrev pub SaveEnds : Outside → Outside → List ℕ → Status → RunResult → Type 0
-SaveEnds before after out status (Ok told) = IsSaveEnd before after out status
+SaveEnds before after out status (Ok counts) = IsSaveEnd before after out status
 SaveEnds before after out status (Err stopped) = IsSaveStop out status stopped.stop
 
 -- what the call leaves: how the script's run ended, which wrote nothing, what it told of refused lines, and what was written
--- then
-pub record LeavesOnSave (before after : Outside) (told : RefusedLines) (status : Status) : Type 0 where
+-- then. The notes have the reasons of refused lines, and then how many there were
+pub record LeavesOnSave (before after : Outside) (told : Telling) (status : Status) : Type 0 where
   pub result : RunResult
-  pub told_is : told ≡ told_of result
+  pub counts : told.counts ≡ counts_of result
+  pub notes : NotesShown
   pub meets : ForSome before.left (λ script.
-      RunMeets (unwritten before) (unwritten after) script after.left result)
+      RunMeets (with_notes (unwritten before) told.before) (with_notes (unwritten after) notes) script after.left result)
+  pub summed : SumsUp result notes told.after
   pub out : List ℕ
   pub appended : Appends before.written after.written out
   pub ends : SaveEnds before after out status result

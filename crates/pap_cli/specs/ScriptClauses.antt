@@ -6,21 +6,24 @@ use Rattle.outside.specs.Told.{FileMap}
 use Rattle.script_steps.specs.Steps.{AreThere}
 use Rattle.script_run.specs.Limits.{most_script}
 use Rattle.script_run.specs.Transcripts.{Session, lines_of, IsTranscript}
-use Rattle.script_run.specs.RunClauses.{RunMeets, RunResult, ended_of, told_of}
-use Rattle.script_run.specs.declared.refused_lines.RefusedLines.{RefusedLines}
+use Rattle.script_run.specs.Notes.{NotesShown, Telling, with_notes}
+use Rattle.script_run.specs.RunClauses.{RunMeets, RunResult, counts_of, ended_of}
 use Rattle.pap_cli.specs.declared.status.Status.{Status}
 use Rattle.pap_cli.specs.declared.status.Status.TheVariants as statuses
 use Rattle.pap_cli.specs.Statuses.{done_status, status_of}
+use Rattle.pap_cli.specs.Notes.{SumsUp}
 use Rattle.pap_cli.specs.Outside.{Outside, shown_of}
 
 -- what a run leaves, and what it tells of refused lines; of the text where the source tells the script and the files what
--- they hold
-pub record LeavesOnScript (before after : Outside) (told : RefusedLines) (status : Status) : Type 0 where
+-- they hold. The notes have the reasons of refused lines, and then how many there were
+pub record LeavesOnScript (before after : Outside) (told : Telling) (status : Status) : Type 0 where
   pub result : RunResult
   pub ended : status ≡ status_of (ended_of result)
-  pub told_is : told ≡ told_of result
+  pub counts : told.counts ≡ counts_of result
+  pub notes : NotesShown
   pub meets : ForSome before.left (λ script.
-      RunMeets (shown_of before) (shown_of after) script after.left result)
+      RunMeets (with_notes (shown_of before) told.before) (with_notes (shown_of after) notes) script after.left result)
+  pub summed : SumsUp result notes told.after
   pub kept : status ≢ statuses.FileFault → after.failed ≡ before.failed
 
 -- all files that the script names are there, its transcript was written whole, the source is at its end, the counter rose by

@@ -1,7 +1,7 @@
 -- What the forms of words ask for.
-use Rattle.std.specs.Prelude.{⊤}
+use Rattle.std.specs.Prelude.{ℕ, List, ⊤}
 use Rattle.pap_cli.specs.declared.words.Request.TheVariants as requests
-use Rattle.pap_cli.specs.Words.{Form, check, once, run, sample, save}
+use Rattle.pap_cli.specs.Words.{Form, check, once, run, sample, save, HasForm}
 
 -- the source's script is read
 abbrev pub ReadsScript : Form → Type 0
@@ -18,3 +18,9 @@ AsksOfFiles (once plan limits values) = ⊤
 AsksOfFiles run = ⊥
 AsksOfFiles (sample employees) = ⊥
 AsksOfFiles save = ⊥
+
+-- the words ask for a script to be carried out, by `run` or by `save`
+pub record AskForScript (words : List (List ℕ)) : Type 0 where
+  pub form : Form
+  pub has : HasForm words form
+  pub reads : ReadsScript form

@@ -6,7 +6,7 @@ ghost use Rattle.plan_answers.specs.Answers.{IsRefusal};
 ghost use Rattle.plan_answers.specs.Refusals.{HasItsPlan};
 ghost use Rattle.script_steps.specs.Shown.{shown};
 ghost use Rattle.pap_cli.specs.FileClauses.{IsCounted, LeavesOnFiles};
-ghost use Rattle.pap_cli.specs.Notes.{AreNoted, notes_shown};
+ghost use Rattle.script_run.specs.Notes.{AreNoted, notes_shown};
 ghost use Rattle.pap_cli.specs.Reasons.{IsReasonLine};
 ghost use Rattle.pap_cli.specs.Statuses.{status_of};
 ghost use Rattle.pap_cli.specs.private.AnswerViews.{answer_of, answers_of, refused_of};

@@ -2,10 +2,10 @@
 ghost use Rattle.std.specs.Prelude.{◌≡◌};
 ghost use Rattle.pap_cli.specs.Words.{texts};
 ghost use Rattle.pap_cli.specs.Outside.{objects};
-ghost use Rattle.pap_cli.specs.CallClauses.{AskForScript, CallMeets, CallTells};
-ghost use Rattle.pap_cli.specs.Notes.{NotesTell};
+ghost use Rattle.pap_cli.specs.CallClauses.{CallMeets, CallTells};
+ghost use Rattle.pap_cli.specs.Notes.{NotesTell, telling};
+ghost use Rattle.pap_cli.specs.ScriptWords.{AskForScript};
 ghost use Rattle.pap_cli.specs.Statuses.{status_of};
-ghost use Rattle.script_run.specs.RunClauses.{ended_of, told_of};
 ghost use Rattle.plan_answers.specs.Laws.{CheckHasOneAnswer};
 ghost use Rattle.pap_cli.specs.Laws.{HaveOneForm, OnceHasOneAnswer};
 ghost use Rattle.pap_cli.specs.Laws.{PrintedAcceptanceHolds, WordsGiveKeptValues};
@@ -14,9 +14,10 @@ use crate::Status;
 use crate::answer::answer;
 use crate::sample::sample;
 use crate::save::save;
+use crate::script::carry_out;
 use crate::words::{Request, read_words};
 use outside::{Files, Sink, Source, SureSink};
-use script_run::{RefusedLines, Stop, Stopped, run};
+use script_run::{LineCounts, Stop};
 use std::alloc::Global;
 use std::sync::ledger::Ledger;
 use steps::Steps;
@@ -33,26 +34,6 @@ fn status(ended: Result<bool, Stop>) -> Status
         Err(Stop::Write) => Status::WriteFault,
         Err(Stop::Memory) => Status::NoMemory,
         Err(Stop::Long) => Status::ScriptLong,
-    }
-}
-
-/// Puts into the list which lines of a script were refused, also where it stopped. `Ok` says whether one was.
-fn tell(
-    ended: Result<RefusedLines, Stopped>,
-    refused_lines: &mut RefusedLines,
-) -> Result<bool, Stop>
-    ensures ended { result ≡ ended_of ended }
-    ensures told { refused_lines.new ≡ told_of ended }
-{
-    match ended {
-        Ok(told) => {
-            *refused_lines = told;
-            Ok(refused_lines.any())
-        }
-        Err(stopped) => {
-            *refused_lines = stopped.refused_lines;
-            Err(stopped.stop)
-        }
     }
 }
 
@@ -78,7 +59,7 @@ pub fn papcalc<F: Files, R: Source, W: Sink, L: Ledger>(
         (objects files.new source.new sink.new steps.new) result }
 {
     let mut notes = SureSink::new();
-    let mut untold = RefusedLines::new(alloc);
+    let mut untold = LineCounts::new();
     papcalc_told(
         alloc,
         words,
@@ -93,8 +74,9 @@ pub fn papcalc<F: Files, R: Source, W: Sink, L: Ledger>(
 
 /// Does what [`papcalc`] does, and says why something is refused. Where the answer on two files is a refusal, its reason is put to
 /// the notes behind it: a line of plain words, which begins with the file and the place in it. That a call of the notes may fail
-/// changes nothing else. Of the script that `run` or `save` carries out it tells which lines were refused, and why, also where it
-/// stops before its end: then of the lines that were answered. Under all other words that list stays as it was.
+/// changes nothing else. Of the script that `run` or `save` carries out the reason of each refused line is put to them right behind
+/// its answer, a line `stdin:NUMBER: WHY`, and at the script's end how many lines were refused. It counts the lines that were answered
+/// and refused, also where the script stops before its end. Under all other words these counts stay as they were.
 pub fn papcalc_told<F: Files, R: Source, W: Sink, N: Sink, L: Ledger>(
     alloc: Global,
     words: &[String],
@@ -102,25 +84,26 @@ pub fn papcalc_told<F: Files, R: Source, W: Sink, N: Sink, L: Ledger>(
     source: &mut R,
     sink: &mut W,
     notes: &mut N,
-    refused_lines: &mut RefusedLines,
+    counts: &mut LineCounts,
     steps: &mut Steps<L>,
 ) -> Status
     ensures meets { CallTells F.Files R.Source W.Sink (texts words.now)
         (objects files.old source.old sink.old steps.old)
-        (objects files.new source.new sink.new steps.new) refused_lines.new result }
+        (objects files.new source.new sink.new steps.new)
+        (telling N.Sink counts.new notes.old notes.new) result }
     ensures notes { NotesTell N.Sink (texts words.now) (F.told files.old) notes.old notes.new result }
-    ensures untold { ¬ (AskForScript (texts words.now)) → refused_lines.new ≡ refused_lines.old }
+    ensures untold { ¬ (AskForScript (texts words.now)) → counts.new ≡ counts.old }
 {
     match read_words(alloc, words) {
         Ok(Some(Request::Files(request))) => {
             status(answer(alloc, request, files, sink, notes, steps))
         },
         Ok(Some(Request::Run)) => {
-            status(tell(run(alloc, files, source, sink, steps), refused_lines))
+            status(carry_out(alloc, files, source, sink, notes, counts, steps))
         },
         Ok(Some(Request::Sample(employees))) => status(sample(alloc, employees, sink, steps)),
         Ok(Some(Request::Save)) => {
-            status(save(alloc, files, source, sink, refused_lines, steps))
+            status(save(alloc, files, source, sink, notes, counts, steps))
         },
         Ok(None) => Status::BadWords,
         Err(_) => Status::NoMemory,

@@ -38,7 +38,7 @@ pub(crate) fn sample<W: Sink, L: Ledger>(
     let ended = run_sample(alloc, employees, steps)?;
     let text = summary(alloc, employees, &ended.script)?;
     match put_all(sink, text.as_bytes()) {
-        Ok(()) => Ok(ended.refused_lines.any()),
+        Ok(()) => Ok(ended.counts.any()),
         Err(_) => Err(Stop::Write),
     }
 }

@@ -7,7 +7,7 @@ mod wrong_words;
 
 use crate::wrong_words::what_is_wrong;
 use outside::{FailedFile, Files, RealFiles, Sink, Source, StdSink, StdSource};
-use pap_cli::{RefusedLines, Status, papcalc_told, refused_text};
+use pap_cli::{LineCounts, Status, papcalc_told};
 use plain_words::one_line;
 use std::alloc::Global;
 use std::env;
@@ -93,7 +93,7 @@ fn counted<L: Ledger, F: Files, R: Source, W: Sink, N: Sink>(
     source: &mut R,
     sink: &mut W,
     notes: &mut N,
-    refused_lines: &mut RefusedLines,
+    counts: &mut LineCounts,
     blank: Blank,
 ) -> Status
     requires name { blank.name ≡ L.name }
@@ -101,16 +101,7 @@ fn counted<L: Ledger, F: Files, R: Source, W: Sink, N: Sink>(
     requires one { blank.parts ≡ 1 }
 {
     let mut steps = Steps::<L>::new(blank);
-    papcalc_told(
-        alloc,
-        words,
-        files,
-        source,
-        sink,
-        notes,
-        refused_lines,
-        &mut steps,
-    )
+    papcalc_told(alloc, words, files, source, sink, notes, counts, &mut steps)
 }
 
 /// The words after the program's name.
@@ -173,29 +164,21 @@ fn explain_file_fault(rt: &HostRuntime, file: &FailedFile, line: Option<u64>) {
 }
 
 /// The line of the script at which a file failed, where the words ask for a script: the one behind those that were answered.
-fn failed_line(words: &[String], refused_lines: &RefusedLines) -> Option<u64> {
+fn failed_line(words: &[String], counts: LineCounts) -> Option<u64> {
     match words {
-        [_] => Some(refused_lines.answered.saturating_add(1)),
+        [_] => Some(counts.answered.saturating_add(1)),
         _ => None,
     }
 }
 
-/// Says on standard error which lines of a script are refused, and why, also where it stopped, unless memory ran out; and of
-/// `save` that the book isn't saved. That this may fail changes nothing.
-fn explain_script(rt: &HostRuntime, word: &str, status: Status, refused_lines: &RefusedLines) {
-    if status != Status::NoMemory
-        && let Ok(text) = refused_text(rt.alloc(), refused_lines)
-    {
-        let _ = eprint!(rt; "{text}");
-    }
-    if status == Status::Refused && word == "save" {
-        let unsaved = if refused_lines.count == 0 {
-            UNSAVED_BOOK
-        } else {
-            UNSAVED_LINES
-        };
-        let _ = eprintln!(rt; "{unsaved}");
-    }
+/// Says on standard error that `save` has not saved the book, and why. That this may fail changes nothing.
+fn explain_unsaved(rt: &HostRuntime, counts: LineCounts) {
+    let unsaved = if counts.any() {
+        UNSAVED_LINES
+    } else {
+        UNSAVED_BOOK
+    };
+    let _ = eprintln!(rt; "{unsaved}");
 }
 
 /// Ends the program: says what is wrong, and gives the status' number.
@@ -204,13 +187,13 @@ fn end(rt: &HostRuntime, status: Status, words: &[String]) -> ExitCode {
     ExitCode::from(status.number())
 }
 
-/// Carries out the words over the system's files and streams, and says on standard error why an answer is a refusal.
+/// Carries out the words over the system's files and streams. Standard error is the place for the notes.
 fn carried_out(rt: &HostRuntime, words: &[String]) -> ExitCode {
     let mut files = RealFiles::new(rt);
     let mut source = StdSource::new(rt.reader());
     let mut sink = StdSink::new(io::writer(rt));
     let mut notes = StdSink::new(rt.stderr());
-    let mut refused_lines = RefusedLines::new(rt.alloc());
+    let mut counts = LineCounts::new();
     let status = counted::<Brand, _, _, _, _>(
         rt.alloc(),
         words,
@@ -218,16 +201,19 @@ fn carried_out(rt: &HostRuntime, words: &[String]) -> ExitCode {
         &mut source,
         &mut sink,
         &mut notes,
-        &mut refused_lines,
+        &mut counts,
         Blank::new(1),
     );
-    if let [word] = words {
-        explain_script(rt, word, status, &refused_lines);
+    if let [word] = words
+        && word.as_str() == "save"
+        && status == Status::Refused
+    {
+        explain_unsaved(rt, counts);
     }
     if status == Status::FileFault
         && let Some(file) = files.failed_file()
     {
-        explain_file_fault(rt, file, failed_line(words, &refused_lines));
+        explain_file_fault(rt, file, failed_line(words, counts));
     }
     end(rt, status, words)
 }

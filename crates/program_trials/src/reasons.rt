@@ -1,11 +1,10 @@
-//! What a call puts to its notes, and what is said of a script's refused lines, once each. What is said of other refusals stands
-//! in `examples/answers`.
+//! What a call puts to its notes, once. What is said of other refusals, and of a script's lines, stands in `examples/answers`.
 ghost use Rattle.std.specs.Prelude.{◌≡◌, ◌≢◌, AllPairs, IfOk};
 ghost use Rattle.outside.specs.Memory.{named_files};
 
 use crate::answers::words_of;
 use outside::{MemFiles, MemSink, MemSource, SureSink};
-use pap_cli::{RefusedLines, Status, papcalc_told, refused_text};
+use pap_cli::{LineCounts, Status, papcalc_told};
 use std::alloc::{AllocError, Global};
 use std::marker::Brand;
 use std::str::from_utf8;
@@ -42,7 +41,7 @@ fn noted<L: Ledger>(
     let mut steps = Steps::<L>::new(blank);
     let mut source = MemSource::new(Vec::new(alloc), 1, Vec::new(alloc));
     let mut sink = SureSink::new();
-    let mut told = RefusedLines::new(alloc);
+    let mut counts = LineCounts::new();
     papcalc_told(
         alloc,
         words,
@@ -50,7 +49,7 @@ fn noted<L: Ledger>(
         &mut source,
         &mut sink,
         notes,
-        &mut told,
+        &mut counts,
         &mut steps,
     )
 }
@@ -69,14 +68,5 @@ fn a_refusal_has_a_reason(rt: HostRuntime) -> Result<(), Fail> {
     let status = status_of(alloc, &words, &mut files, &mut notes);
     assert_eq!(rt; status, Status::Refused);
     assert_eq!(rt; from_utf8(notes.written()).unwrap_or(""), REASON);
-    Ok(())
-}
-
-#[test]
-fn refused_lines_are_counted(rt: HostRuntime) -> Result<(), Fail> {
-    let mut told = RefusedLines::new(rt.alloc());
-    told.count = 2;
-    let text = refused_text(rt.alloc(), &told)?;
-    assert_eq!(rt; text.as_str(), "and 2 more\n");
     Ok(())
 }

@@ -8,7 +8,7 @@ use Rattle.outside.specs.Told.{FileMap}
 use Rattle.script_steps.specs.GoingOn.{AreSteps, IsSavable}
 use Rattle.script_steps.specs.Steps.{Answer, Standing}
 use Rattle.script_steps.proofs.Laws.{make_books}
-use Rattle.script_run.specs.private.RefusedLines.{noted}
+use Rattle.script_run.specs.private.LineCounts.{noted}
 use Rattle.script_run.specs.private.RunViews.{Follow, empty_session, with_answer}
 use Rattle.script_run.specs.Transcripts.{AreAnswered, Session, refusal_of, refused_from, session_of}
 use Rattle.script_run.specs.TranscriptLaws.{ScriptsLeaveBooks}

@@ -1,13 +1,15 @@
 -- The laws of sessions and transcripts that other crates may cite.
 use Rattle.std.proofs.Common.{◌≡◌, List, [], ◌∷◌, ◌++◌, ℕ, ◌+◌, ◌≤◌, refl, sym, ap, ◌∙◌, subst, append_assoc, arith, inl, inr}
-use Rattle.std.specs.Prelude.{IsSome, All}
+use Rattle.std.specs.Prelude.{IsSome, All, Result, Ok, Err, OnOk, ⊤}
 use Rattle.std.proofs.lemmas.List.{append-nil}
 use Rattle.std.proofs.lemmas.List.Elements.{All-nil, All-cons}
-use Rattle.outside.specs.Told.{FileMap}
+use Rattle.outside.specs.Causes.{HasCause, Rose, Still}
+use Rattle.outside.specs.Told.{Appends, FileMap}
 use Rattle.script_steps.specs.Steps.{Standing, Answer, AreThere, IsStep}
 use Rattle.script_steps.specs.StepLaws.{LacksAFile}
 use Rattle.script_steps.proofs.Laws as step
 use Rattle.script_run.specs.private.RunViews.{Follow, empty_session, with_answer}
+use Rattle.script_run.specs.Notes.{AreNoted, NotesShown}
 use Rattle.script_run.specs.Transcripts.{Session, lines_of, IsHalted, IsSession}
 use Rattle.script_run.specs.TranscriptLaws.{ScriptsHaveATranscript, ScriptsHaveOneTranscript}
 use Rattle.script_run.specs.RunClauses.{IsFrontOfSession}
@@ -230,3 +232,15 @@ pub one : ScriptsHaveOneTranscript
 one files script session other a b =
     FollowToHalt-one files empty_session session other (lines_of script) (totals_of_session files (lines_of script) session a)
     (totals_of_session files (lines_of script) other b)
+
+-- ---- notes
+
+no_rise : (before now : ℕ) → Rose before now → Still before now → ⊥
+no_rise before now rose still = omega arith
+
+-- a text that was put to them by one call
+pub noted_by : {E : Type 0} (r : Result ⊤ E) (before after : NotesShown) (text : List ℕ) → OnOk r (Appends before.written after.written text)
+    → HasCause before.faults after.faults r → AreNoted before after text
+noted_by (Ok x) before after text ok cause = record { later = cause.later; put = λ still. ok }
+noted_by (Err e) before after text ok cause =
+    record { later = cause.later; put = λ still. absurd (no_rise before.faults after.faults cause.failed still) }

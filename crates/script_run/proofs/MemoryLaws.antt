@@ -8,24 +8,24 @@ use Rattle.outside.specs.Memory.{file_named}
 use Rattle.script_steps.specs.Steps.{Standing, AreThere}
 use Rattle.script_run.specs.Limits.{most_script}
 use Rattle.script_run.specs.Transcripts.{lines_of}
-use Rattle.script_steps.specs.Shown.{OutsideShown}
-use Rattle.script_run.specs.RunClauses.{RunMeets, EndsUnwritten, IsFinished, IsSpentWithin}
+use Rattle.script_run.specs.Notes.{RunShown}
+use Rattle.script_run.specs.RunClauses.{RunMeets, EndsUnwritten, EndsWritten, IsFinished, IsSpentWithin}
 use Rattle.script_run.specs.private.RunClauses.{EndsAt}
 use Rattle.script_run.specs.private.RunViews.{stopped_at}
 use Rattle.script_run.specs.declared.turns.Ended.{Ended}
-use Rattle.script_run.specs.declared.refused_lines.RefusedLines.{RefusedLines}
+use Rattle.script_run.specs.declared.line_counts.LineCounts.{LineCounts}
 use Rattle.script_run.specs.declared.stop.Stop.{Stop}
 use Rattle.script_run.specs.declared.stop.Stop.TheVariants as stops
 use Rattle.script_run.specs.declared.stop.Stopped.{Stopped}
 use Rattle.script_run.proofs.Laws.{one, some}
 
 -- a run that stopped for this reason
-pub stopped_for : {before after : OutsideShown} {script : List ℕ} {left : Option (List ℕ)} (stopped : Stopped)
+pub stopped_for : {before after : RunShown} {script : List ℕ} {left : Option (List ℕ)} (stopped : Stopped)
     {stop : Stop} →
     stopped.stop ≡ stop → RunMeets before after script left (Err stopped) →
-    RunMeets before after script left (stopped_at stop stopped.refused_lines)
+    RunMeets before after script left (stopped_at stop stopped.counts)
 stopped_for {before = before} {after = after} {script = script} {left = left} stopped is meets =
-    subst (λ v. RunMeets before after script left (stopped_at v stopped.refused_lines)) is meets
+    subst (λ v. RunMeets before after script left (stopped_at v stopped.counts)) is meets
 
 line_there : (files : FileMap) (before later : List (List ℕ)) (line : List ℕ) → All (λ v. AreThere files v)
     (before ++ line ∷ later) → AreThere files line
@@ -34,7 +34,7 @@ line_there files (first ∷ before) later line there =
     line_there files before later line (All-tail (λ v. AreThere files v) first (before ++ line ∷ later) there)
 
 -- a file that a line names isn't lacking
-pub no_file_stop : {before after : OutsideShown} {left : Option (List ℕ)} {lines : RefusedLines} (files : FileMap)
+pub no_file_stop : {before after : RunShown} {left : Option (List ℕ)} {lines : LineCounts} (files : FileMap)
     (script : List ℕ) → RunMeets before after script left (stopped_at stops.File lines) →
     All (λ line. AreThere files line) (lines_of script) → ((name : List ℕ) → after.failed ≡ Some name →
     files name ≡ None) → ⊥
@@ -47,7 +47,7 @@ no_file_stop files script meets there lacks =
     cc
 
 -- a script within the limit isn't too long
-pub no_long_stop : {before after : OutsideShown} {left : Option (List ℕ)} {lines : RefusedLines} (script : List ℕ) →
+pub no_long_stop : {before after : RunShown} {left : Option (List ℕ)} {lines : LineCounts} (script : List ℕ) →
     RunMeets before after script left (stopped_at stops.Long lines) → length script ≤ most_script → ⊥
 no_long_stop script meets short = omega (
   arith,
@@ -58,10 +58,10 @@ no_long_stop script meets short = omega (
 )
 
 -- what a whole run leaves
-pub finished : {before after : OutsideShown} {left : Option (List ℕ)} (files : FileMap) (script : List ℕ)
+pub finished : {before after : RunShown} {left : Option (List ℕ)} (files : FileMap) (script : List ℕ)
     (ended : Ended) (kept : Option (Vec ℕ Global)) →
-    RunMeets before after script left (Ok ended.refused_lines) →
-    EndsAt files script ended.script kept ended.refused_lines →
+    RunMeets before after script left (Ok ended.counts) →
+    EndsAt files script ended.script kept ended.counts →
     before.files ≡ Some files → IsFinished files script before.steps after.steps ended
 finished {before = before} {after = after} files script ended kept meets ends told =
     let whole = meets.leaves.tells.whole files told in
@@ -72,17 +72,27 @@ finished {before = before} {after = after} files script ended kept meets ends to
       session = whole.session;
       is = whole.is;
       mark = whole.mark;
-      told = whole.told_is;
+      counted = whole.told_is.counted;
       cost = omega arith;
       left = sym (ap (λ v. v.standing) same ∙ ends.left);
     }
 
+-- what a whole run has made
+pub ends_written : (files : FileMap) (script : List ℕ) (ended : Ended) (kept : Option (Vec ℕ Global)) →
+    EndsAt files script ended.script kept ended.counts → EndsWritten files script ended
+ends_written files script ended kept ends = record {
+  session = ends.session;
+  is = ends.is;
+  counted = ends.counted;
+  left = sym ends.left;
+}
+
 -- what a whole run has made whose refusals were kept
-pub ends_unwritten : {before after : OutsideShown} {left : Option (List ℕ)} (files : FileMap) (script : List ℕ)
-    (lines : RefusedLines) (standing : Standing) (kept : Vec ℕ Global) →
+pub ends_unwritten : {before after : RunShown} {left : Option (List ℕ)} (files : FileMap) (script : List ℕ)
+    (lines : LineCounts) (standing : Standing) (kept : Vec ℕ Global) →
     RunMeets before after script left (Ok lines) → EndsAt files script standing (Some kept) lines →
     before.files ≡ Some files →
-    EndsUnwritten files script (record { refused_lines = lines; refusals = kept; script = standing })
+    EndsUnwritten files script (record { counts = lines; refusals = kept; script = standing })
 ends_unwritten files script lines standing kept meets ends told =
     let whole = meets.leaves.tells.whole files told in
     let same = one files script whole.session ends.session whole.is ends.is in
@@ -90,13 +100,13 @@ ends_unwritten files script lines standing kept meets ends told =
       session = ends.session;
       is = ends.is;
       mark = whole.mark ∙ ap (λ v. v.refused) same;
-      told = ends.told_is;
+      counted = ends.counted;
       refusals = ends.refusals;
       left = sym ends.left;
     }
 
 -- what a run leaves that memory stopped
-pub spent_within : {before after : OutsideShown} {left : Option (List ℕ)} {lines : RefusedLines} (files : FileMap)
+pub spent_within : {before after : RunShown} {left : Option (List ℕ)} {lines : LineCounts} (files : FileMap)
     (script : List ℕ) → RunMeets before after script left (stopped_at stops.Memory lines) → before.files ≡ Some files →
     IsSpentWithin files script before.steps after.steps
 spent_within {before = before} {after = after} files script meets told =

@@ -16,20 +16,21 @@ use Rattle.script_steps.proofs.Laws as step
 use Rattle.script_run.specs.Transcripts.{Session, refusal_of, lines_of, ended_lines, IsSession, IsTranscript}
 use Rattle.script_run.specs.Stops.{stop_of}
 use Rattle.script_steps.specs.Shown.{OutsideShown, shown}
-use Rattle.script_run.specs.private.RunClauses.{told_by, EndsAt, KeepsRefusals}
+use Rattle.script_run.specs.private.RunClauses.{told_by, without_notes, EndsAt, KeepsRefusals}
 use Rattle.script_run.specs.RunClauses.{IsFrontOfSession, IsAtLine, RunLeaves}
 use Rattle.script_run.specs.private.RunViews.{Follow, empty_session, with_answer, open_line, Holds, IsSameSoFar, IsAtStart, Keeps}
 use Rattle.script_run.specs.private.RunViews.{IsDelivered, Stands, GoesOn, Breaks, Closes, ClosesAt, stopped_at, last_result}
 use Rattle.script_run.specs.declared.stop.Stop.TheVariants as stops
 use Rattle.script_run.specs.declared.reading.Reading.{Reading}
-use Rattle.script_run.specs.RefusedLines.{IsToldOf, tells_one}
-use Rattle.script_run.specs.private.RefusedLines.{Notes, noted}
-use Rattle.script_run.specs.declared.refused_lines.RefusedLines.{RefusedLines}
+use Rattle.script_run.specs.LineCounts.{AreCounted, counts_one}
+use Rattle.script_run.specs.Notes.{IsToldOf, NotesShown, RunShown, with_notes}
+use Rattle.script_run.specs.private.LineCounts.{Notes, noted}
+use Rattle.script_run.specs.declared.line_counts.LineCounts.{LineCounts}
 use Rattle.script_run.proofs.Laws.{FollowToHalt, Follow-next, Follow-grows, Follow-there, FollowToHalt-rest, FollowToHalt-whole}
 use Rattle.script_run.proofs.Laws.{answered_of, session_of_totals, totals_of_session}
 use Rattle.script_run.proofs.LineLaws.{ended_lines-lf, open_line-lf, ended_lines-other, open_line-other, Begins, lines_of-append, lines_of-parts, last_lines, last_lines-some, last_lines-none}
 use Rattle.script_run.proofs.KeepingLaws.{SaysSame}
-use Rattle.script_run.proofs.ToldLaws.{tells_none, tells_noted, told_more}
+use Rattle.script_run.proofs.ToldLaws.{tells_none, tells_noted, told_more, told_nothing}
 
 -- what is kept of a line is answered as the line
 step_same : (files : FileMap) (from to : Standing) (said line : List ℕ) (answer : Answer) → SaysSame said line →
@@ -128,7 +129,7 @@ session_same {e = e} {n = n} {l = l} p q r s = λ i. record {
 }
 
 -- before the first byte
-pub stands_first : (before : OutsideShown) (reading : Reading) → IsAtStart reading → Stands before before [] reading
+pub stands_first : (before : RunShown) (reading : Reading) → IsAtStart reading → Stands before before [] reading
 stands_first before reading first = record {
   out = [];
   refusals = [];
@@ -139,12 +140,12 @@ stands_first before reading first = record {
   counted = omega arith;
   held = record { front = first.line; long = first.long };
   kept = first.refusals;
-  told = first.refused_lines;
-  answered = λ files e. session_same refl (tells_none first.refused_lines) (omega arith) first.script;
+  told = told_nothing before.notes first.counts;
+  answered = λ files e. session_same refl (tells_none first.counts) (omega arith) first.script;
 }
 
 -- a byte that ends no line
-pub push_on : {old : OutsideShown} {was is : Reading} (b : ℕ) → (b == 10) ≡ false → ((line : List ℕ) → Holds was line →
+pub push_on : {old : RunShown} {was is : Reading} (b : ℕ) → (b == 10) ≡ false → ((line : List ℕ) → Holds was line →
     Holds is (line ++ b ∷ [])) → IsSameSoFar was is → GoesOn old old was is (b ∷ [])
 push_on {old = old} {was = was} {is = is} b other held same = record {
   on = λ before bytes stands. record {
@@ -157,49 +158,54 @@ push_on {old = old} {was = was} {is = is} b other held same = record {
     counted = stands.counted;
     held = subst (λ v. Holds is v) (sym (open_line-other bytes b other)) (held (open_line bytes) stands.held);
     kept = subst (λ v. KeepsRefusals v stands.refusals) (sym same.refusals) stands.kept;
-    told = subst (λ v. IsToldOf stands.lines stands.refused_lines v) (sym same.refused_lines) stands.told;
+    told = subst (λ v. IsToldOf stands.lines stands.refused_lines
+        (record { counts = v; before = before.notes; after = old.notes })) (sym same.counts) stands.told;
     answered = λ files e.
         subst (λ v. Follow files empty_session v (record {
           text = stands.out;
-          refused = tells_one is.refused_lines;
+          refused = counts_one is.counts;
           refusals = stands.refusals;
           lines = stands.lines;
           refused_lines = stands.refused_lines;
           steps = old.steps - before.steps;
           standing = is.script;
         })) (sym (ended_lines-other bytes b other))
-        (subst (λ v. Follow files empty_session (ended_lines bytes) v) (session_same refl (ap (λ v. tells_one v) (sym same.refused_lines)) refl
+        (subst (λ v. Follow files empty_session (ended_lines bytes) v) (session_same refl (ap (λ v. counts_one v) (sym same.counts)) refl
         (sym same.script)) (stands.answered files e));
   };
 }
 
--- of the sink the same is shown, since refusals are kept or not as before
-pub goes_told : (files : Option FileMap) (failed w : Option (List ℕ)) (steps : ℕ) (was is : Reading) (more : List ℕ) →
-    is.refusals ≡ was.refusals →
-    GoesOn (shown files failed (told_by was.refusals w) steps) (shown files failed (told_by was.refusals w) steps) was is
-    more →
-    GoesOn (shown files failed (told_by was.refusals w) steps) (shown files failed (told_by is.refusals w) steps) was is
-    more
-goes_told files failed w steps was is more same goes =
-    subst (λ r. GoesOn (shown files failed (told_by was.refusals w) steps) (shown files failed (told_by r w) steps) was is
-    more) (sym same) goes
+-- what is shown, of these parts
+abbrev pub shown_notes : Option FileMap → Option (List ℕ) → Option (List ℕ) → ℕ → NotesShown → RunShown
+shown_notes files failed written steps notes = with_notes (shown files failed written steps) notes
 
-pub breaks_told : (files : Option FileMap) (failed w : Option (List ℕ)) (steps : ℕ) (was is : Reading)
-    (told : RefusedLines) (more : List ℕ) (stop : LineStop) → is.refusals ≡ was.refusals →
-    Breaks (shown files failed (told_by was.refusals w) steps) (shown files failed (told_by was.refusals w) steps) was
-    told more stop →
-    Breaks (shown files failed (told_by was.refusals w) steps) (shown files failed (told_by is.refusals w) steps) was
-    told more stop
-breaks_told files failed w steps was is told more stop same breaks =
-    subst (λ r. Breaks (shown files failed (told_by was.refusals w) steps) (shown files failed (told_by r w) steps) was
-    told more stop) (sym same) breaks
+-- of the sink the same is shown, since refusals are kept or not as before
+pub goes_told : (files : Option FileMap) (failed w : Option (List ℕ)) (steps : ℕ) (notes : NotesShown) (was is : Reading)
+    (more : List ℕ) → is.refusals ≡ was.refusals →
+    GoesOn (shown_notes files failed (told_by was.refusals w) steps notes)
+    (shown_notes files failed (told_by was.refusals w) steps notes) was is more →
+    GoesOn (shown_notes files failed (told_by was.refusals w) steps notes)
+    (shown_notes files failed (told_by is.refusals w) steps notes) was is more
+goes_told files failed w steps notes was is more same goes =
+    subst (λ r. GoesOn (shown_notes files failed (told_by was.refusals w) steps notes)
+    (shown_notes files failed (told_by r w) steps notes) was is more) (sym same) goes
+
+pub breaks_told : (files : Option FileMap) (failed w : Option (List ℕ)) (steps : ℕ) (notes : NotesShown) (was is : Reading)
+    (told : LineCounts) (more : List ℕ) (stop : LineStop) → is.refusals ≡ was.refusals →
+    Breaks (shown_notes files failed (told_by was.refusals w) steps notes)
+    (shown_notes files failed (told_by was.refusals w) steps notes) was told more stop →
+    Breaks (shown_notes files failed (told_by was.refusals w) steps notes)
+    (shown_notes files failed (told_by is.refusals w) steps notes) was told more stop
+breaks_told files failed w steps notes was is told more stop same breaks =
+    subst (λ r. Breaks (shown_notes files failed (told_by was.refusals w) steps notes)
+    (shown_notes files failed (told_by r w) steps notes) was told more stop) (sym same) breaks
 
 -- an LF, with the answer to its line
-pub line_on : {old new : OutsideShown} {was is : Reading} {refused : Bool} → new.files ≡ old.files →
+pub line_on : {old new : RunShown} {was is : Reading} {refused : Bool} → new.files ≡ old.files →
     ((line : List ℕ) → Holds was line →
-    IsDelivered old new was.script is.script was.refusals is.refusals
+    IsDelivered (without_notes old) (without_notes new) was.script is.script was.refusals is.refusals
     (strip_carriage_return line) refused) →
-    Holds is [] → Notes was.refused_lines is.refused_lines refused → GoesOn old new was is (10 ∷ [])
+    Holds is [] → Notes was.counts old.notes is.counts new.notes refused → GoesOn old new was is (10 ∷ [])
 line_on {old = old} {new = new} {was = was} {is = is} {refused = refused} same_files answers held notes = record {
   on = λ before bytes stands.
       let delivered = answers (open_line bytes) stands.held in
@@ -207,8 +213,8 @@ line_on {old = old} {new = new} {was = was} {is = is} {refused = refused} same_f
       let rose : before.steps ≤ old.steps = stands.counted in
       let counted : new.steps ≡ old.steps + (answered.answer).steps = answered.counted in
       let steps : (old.steps - before.steps) + (answered.answer).steps ≡ new.steps - before.steps = omega arith in
-      let told = notes stands.lines stands.refused_lines stands.told in
-      let mark = tells_noted stands.refused_lines (stands.lines + 1) refused stands.told told in
+      let told = notes before.notes stands.lines stands.refused_lines stands.told in
+      let mark = tells_noted stands.refused_lines (stands.lines + 1) refused stands.told.counted told.counted in
       record {
         out = stands.out ++ (answered.answer).text;
         refusals = stands.refusals ++ refusal_of answered.answer;
@@ -220,12 +226,11 @@ line_on {old = old} {new = new} {was = was} {is = is} {refused = refused} same_f
         counted = omega arith;
         held = subst (λ v. Holds is v) (sym (open_line-lf bytes)) held;
         kept = kept_more was.refusals is.refusals answered.answer stands.refusals delivered.kept stands.kept;
-        told = told_more (stands.lines + 1) stands.refused_lines is.refused_lines refused (answered.answer).refused
-            answered.marked told;
+        told = told_more (stands.lines + 1) stands.refused_lines _ refused (answered.answer).refused answered.marked told;
         answered = λ files e.
             subst (λ v. Follow files empty_session v (record {
               text = stands.out ++ (answered.answer).text;
-              refused = tells_one is.refused_lines;
+              refused = counts_one is.counts;
               refusals = stands.refusals ++ refusal_of answered.answer;
               lines = stands.lines + 1;
               refused_lines = noted stands.refused_lines (stands.lines + 1) (answered.answer).refused;
@@ -233,7 +238,7 @@ line_on {old = old} {new = new} {was = was} {is = is} {refused = refused} same_f
               standing = is.script;
             })) (sym (ended_lines-lf bytes))
             (subst (λ v. Follow files empty_session (ended_lines bytes ++ strip_carriage_return
-            (open_line bytes) ∷ []) v) (session_same refl (ap (λ v. tells_one was.refused_lines || v)
+            (open_line bytes) ∷ []) v) (session_same refl (ap (λ v. counts_one was.counts || v)
             (sym answered.marked) ∙ sym mark) steps refl)
             (Follow-next files empty_session _ (ended_lines bytes) (strip_carriage_return
             (open_line bytes)) is.script answered.answer (stands.answered files e) (answered.is files (stands.same
@@ -257,9 +262,10 @@ begins_so bytes more rest = subst (λ v. Begins (ended_lines bytes) (lines_of v)
     (lines_of-append bytes (more ++ rest))
 
 -- where nothing was written or counted the run stands as it stood
-nothing_on : {before old new : OutsideShown} {bytes : List ℕ} {was : Reading} → new.files ≡ old.files →
-    IsUnbegun old new → Stands before old bytes was → Stands before new bytes was
-nothing_on {before = before} {old = old} {new = new} {bytes = bytes} {was = was} same nothing stands = record {
+nothing_on : {before old new : RunShown} {bytes : List ℕ} {was : Reading} → new.files ≡ old.files →
+    new.notes ≡ old.notes → IsUnbegun (without_notes old) (without_notes new) → Stands before old bytes was →
+    Stands before new bytes was
+nothing_on {before = before} {old = old} {new = new} {bytes = bytes} {was = was} same same_notes nothing stands = record {
   out = stands.out;
   refusals = stands.refusals;
   lines = stands.lines;
@@ -270,11 +276,12 @@ nothing_on {before = before} {old = old} {new = new} {bytes = bytes} {was = was}
   counted = subst (λ v. before.steps ≤ v) (sym nothing.uncounted) stands.counted;
   held = stands.held;
   kept = stands.kept;
-  told = stands.told;
+  told = subst (λ v. IsToldOf stands.lines stands.refused_lines
+      (record { counts = was.counts; before = before.notes; after = v })) (sym same_notes) stands.told;
   answered = λ files e.
       subst (λ v. Follow files empty_session (ended_lines bytes) (record {
         text = stands.out;
-        refused = tells_one was.refused_lines;
+        refused = counts_one was.counts;
         refusals = stands.refusals;
         lines = stands.lines;
         refused_lines = stands.refused_lines;
@@ -305,8 +312,8 @@ front_next files lines later line script session to answer begins answered is wh
     (Follow-next files empty_session session lines line to answer answered is) whole transcript
 
 -- where a run stands it has left the answers so far
-pub leaves_so_far : {most : ℕ} {before now : OutsideShown} {bytes script taken rest : List ℕ} {reading : Reading}
-    {told : RefusedLines} →
+pub leaves_so_far : {most : ℕ} {before now : RunShown} {bytes script taken rest : List ℕ} {reading : Reading}
+    {told : LineCounts} →
     Begins (ended_lines bytes) (lines_of script) → Stands before now bytes reading →
     RunLeaves most before now script taken rest (stopped_at stops.Memory told)
 leaves_so_far {bytes = bytes} {script = script} begins stands = record {
@@ -319,16 +326,17 @@ leaves_so_far {bytes = bytes} {script = script} begins stands = record {
 }
 
 -- what is told of the lines so far, where it is still the same
-tells_so_far : {before now : OutsideShown} {bytes : List ℕ} {reading : Reading} {told : RefusedLines} →
-    told ≡ reading.refused_lines → (stands : Stands before now bytes reading) →
-    IsToldOf stands.lines stands.refused_lines told
-tells_so_far unchanged stands = subst (λ v. IsToldOf stands.lines stands.refused_lines v) (sym unchanged) stands.told
+tells_so_far : {before now : RunShown} {bytes : List ℕ} {reading : Reading} {told : LineCounts} →
+    told ≡ reading.counts → (stands : Stands before now bytes reading) →
+    IsToldOf stands.lines stands.refused_lines (record { counts = told; before = before.notes; after = now.notes })
+tells_so_far {before = before} {now = now} unchanged stands = subst (λ v. IsToldOf stands.lines stands.refused_lines
+    (record { counts = v; before = before.notes; after = now.notes })) (sym unchanged) stands.told
 
-leaves_file : {most : ℕ} {before now : OutsideShown} {bytes script taken rest line : List ℕ} {reading : Reading}
-    {told : RefusedLines} →
+leaves_file : {most : ℕ} {before now : RunShown} {bytes script taken rest line : List ℕ} {reading : Reading}
+    {told : LineCounts} →
     IsAtLine most script taken (ended_lines bytes) line → (name : List ℕ) (names : Names line name) →
     ForSome before.files (λ files. IsNextFile files names.what name) → now.failed ≡ Some name →
-    told ≡ reading.refused_lines → Stands before now bytes reading →
+    told ≡ reading.counts → Stands before now bytes reading →
     RunLeaves most before now script taken rest (stopped_at stops.File told)
 leaves_file {bytes = bytes} {script = script} {line = line} place name names in_order failed unchanged stands = record {
   out = stands.out;
@@ -354,10 +362,10 @@ leaves_file {bytes = bytes} {script = script} {line = line} place name names in_
   };
 }
 
-leaves_part : {most : ℕ} {before old new : OutsideShown} {bytes script taken rest line : List ℕ} {was : Reading}
-    {told : RefusedLines} →
+leaves_part : {most : ℕ} {before old new : RunShown} {bytes script taken rest line : List ℕ} {was : Reading}
+    {told : LineCounts} →
     IsAtLine most script taken (ended_lines bytes) line →
-    IsPart old new was.script line → Stands before old bytes was →
+    IsPart (without_notes old) (without_notes new) was.script line → Stands before old bytes was →
     RunLeaves most before new script taken rest (stopped_at stops.Memory told)
 leaves_part {before = before} {old = old} {new = new} {bytes = bytes} {script = script} {line =
     line} place part stands =
@@ -379,12 +387,13 @@ leaves_part {before = before} {old = old} {new = new} {bytes = bytes} {script = 
       tells = tt;
     }
 
-leaves_write : {most : ℕ} {before old new : OutsideShown} {bytes script taken rest line : List ℕ} {was : Reading}
-    {to : Standing} {told : RefusedLines} → IsAtLine most script taken (ended_lines bytes) line →
-    IsUnfinished old new was.script to line → told ≡ was.refused_lines → Stands before old bytes was →
+leaves_write : {most : ℕ} {before old new : RunShown} {bytes script taken rest line : List ℕ} {was : Reading}
+    {to : Standing} {told : LineCounts} → IsAtLine most script taken (ended_lines bytes) line →
+    IsUnfinished (without_notes old) (without_notes new) was.script to line → told ≡ was.counts →
+    new.notes ≡ old.notes → Stands before old bytes was →
     RunLeaves most before new script taken rest (stopped_at stops.Write told)
 leaves_write {before = before} {old = old} {new = new} {bytes = bytes} {script = script} {line =
-    line} {to = to} place cut unchanged stands =
+    line} {to = to} {told = told} place cut unchanged same_notes stands =
     let rose : before.steps ≤ old.steps = stands.counted in
     let counted : new.steps ≡ old.steps + (cut.answer).steps = cut.counted in
     let cost : new.steps - before.steps ≡ (old.steps - before.steps) + (cut.answer).steps = omega arith in
@@ -414,25 +423,43 @@ leaves_write {before = before} {old = old} {new = new} {bytes = bytes} {script =
           within = (cut.part).within;
           text = refl;
           cost = cost;
-          told_is = tells_so_far unchanged stands;
+          told_is = subst (λ v. IsToldOf stands.lines stands.refused_lines
+              (record { counts = told; before = before.notes; after = v })) (sym same_notes) (tells_so_far unchanged stands);
         };
       };
     }
 
+-- memory ran out before anything was done at a line
+leaves_unbegun : {most : ℕ} {before old new : RunShown} {bytes script taken rest line : List ℕ} {was : Reading}
+    {told : LineCounts} → IsAtLine most script taken (ended_lines bytes) line →
+    IsUnbegun (without_notes old) (without_notes new) → Stands before old bytes was →
+    RunLeaves most before new script taken rest (stopped_at stops.Memory told)
+leaves_unbegun {before = before} {old = old} {new = new} {bytes = bytes} {script = script} {line = line} place nothing stands = record {
+  out = stands.out;
+  appended = subst (λ v. Appends before.written new.written v) (append-nil stands.out)
+      (Appends-then before.written old.written new.written stands.out [] stands.appended nothing.nothing);
+  counted = subst (λ v. before.steps ≤ v) (sym nothing.uncounted) stands.counted;
+  front = λ files e whole transcript.
+      subst (λ v. IsFrontOfSession whole stands.out (v - before.steps)) (sym nothing.uncounted)
+      (front_so_far files (ended_lines bytes) (line ∷ place.later) script _ place.lines (stands.answered files e) whole transcript);
+  tells = tt;
+}
+
 -- a stop at a line; but where memory ran out the same is told as before it
-leaves_broken : {most : ℕ} {before old new : OutsideShown} {bytes script taken rest line : List ℕ} {was : Reading}
-    {told : RefusedLines} →
+leaves_broken : {most : ℕ} {before old new : RunShown} {bytes script taken rest line : List ℕ} {was : Reading}
+    {told : LineCounts} →
     new.files ≡ old.files → IsAtLine most script taken (ended_lines bytes) line →
-    (stop : LineStop) → BreaksLine old new was.script line stop → (stop ≢ Memory → told ≡ was.refused_lines) →
+    (stop : LineStop) → BreaksLine (without_notes old) (without_notes new) was.script line stop →
+    (stop ≢ Memory → told ≡ was.counts) → (stop ≢ Memory → new.notes ≡ old.notes) →
     Stands before old bytes was → RunLeaves most before new script taken rest (stopped_at (stop_of stop) told)
-leaves_broken same place File broken unchanged stands = leaves_file place (broken.is).name (broken.is).names
+leaves_broken same place File broken unchanged silent stands = leaves_file place (broken.is).name (broken.is).names
     (λ files e. (broken.is).in_order files (stands.same ∙ e)) (broken.is).failed_there (unchanged (λ e. cc))
-    (nothing_on same (broken.is).unbegun stands)
-leaves_broken same place Write broken unchanged stands = leaves_write place broken.is (unchanged (λ e. cc)) stands
-leaves_broken {line = line} same place Memory broken unchanged stands =
+    (nothing_on same (silent (λ e. cc)) (broken.is).unbegun stands)
+leaves_broken same place Write broken unchanged silent stands =
+    leaves_write place broken.is (unchanged (λ e. cc)) (silent (λ e. cc)) stands
+leaves_broken same place Memory broken unchanged silent stands =
     elim ((broken.is).done) [
-      | inl nothing ↦ leaves_so_far (record { more = line ∷ place.later; is = place.lines })
-          (nothing_on same nothing stands)
+      | inl nothing ↦ leaves_unbegun place nothing stands
       | inr part ↦ leaves_part place part stands
     ]
 
@@ -457,19 +484,20 @@ ended_place bytes rest =
     }
 
 -- a stop at the line that an LF ends, where a `?` passes it on
-pub breaks_line : {old new : OutsideShown} {was : Reading} {e stop : LineStop} {told : RefusedLines} → e ≡ stop →
+pub breaks_line : {old new : RunShown} {was : Reading} {e stop : LineStop} {told : LineCounts} → e ≡ stop →
     new.files ≡ old.files →
-    ((line : List ℕ) → Holds was line → BreaksLine old new was.script (strip_carriage_return line) e) →
-    (e ≢ Memory → told ≡ was.refused_lines) → Breaks old new was told (10 ∷ []) stop
-breaks_line {old = old} {new = new} {was = was} {e = e} {told = told} passed same broken unchanged =
+    ((line : List ℕ) → Holds was line →
+    BreaksLine (without_notes old) (without_notes new) was.script (strip_carriage_return line) e) →
+    (e ≢ Memory → told ≡ was.counts) → (e ≢ Memory → new.notes ≡ old.notes) → Breaks old new was told (10 ∷ []) stop
+breaks_line {old = old} {new = new} {was = was} {e = e} {told = told} passed same broken unchanged silent =
     let breaks : Breaks old new was told (10 ∷ []) e = record {
       on = λ before bytes rest stands. leaves_broken same (ended_place bytes rest) e (broken
-          (open_line bytes) stands.held) unchanged stands;
+          (open_line bytes) stands.held) unchanged silent stands;
     } in
     subst (λ v. Breaks old new was told (10 ∷ []) v) passed breaks
 
 -- want of memory before anything was done
-pub breaks_memory : {old : OutsideShown} {was : Reading} {stop : LineStop} {told : RefusedLines} (more : List ℕ) →
+pub breaks_memory : {old : RunShown} {was : Reading} {stop : LineStop} {told : LineCounts} (more : List ℕ) →
     Memory ≡ stop → Breaks old old was told more stop
 breaks_memory {old = old} {was = was} {told = told} more passed =
     let breaks : Breaks old old was told more Memory = record {
@@ -508,13 +536,13 @@ answered_lost {old = old} {new = new} {to = to} delivered =
 pub err_same : {T : Type 0} {a b : LineStop} → a ≡ b → ◌≡◌ {A = Result T LineStop} (Err a) (Err b)
 err_same e = ap (λ v. Err v) e
 
-pub goes_nowhere : {old : OutsideShown} {was : Reading} → GoesOn old old was was []
+pub goes_nowhere : {old : RunShown} {was : Reading} → GoesOn old old was was []
 goes_nowhere {old = old} {was = was} = record {
   on = λ before bytes stands. subst (λ v. Stands before old v was) (sym
       (append-nil bytes)) stands;
 }
 
-goes_further : {old mid new : OutsideShown} {was half is : Reading} (front more : List ℕ) →
+goes_further : {old mid new : RunShown} {was half is : Reading} (front more : List ℕ) →
     GoesOn old mid was half front →
     GoesOn mid new half is more → GoesOn old new was is (front ++ more)
 goes_further {new = new} {is = is} front more p q = record {
@@ -522,14 +550,14 @@ goes_further {new = new} {is = is} front more p q = record {
       (bytes ++ front) (p.on before bytes stands));
 }
 
-pub goes_byte : {old mid new : OutsideShown} {was half is : Reading} (piece : List ℕ) (i : ℕ) → i < length piece →
+pub goes_byte : {old mid new : RunShown} {was half is : Reading} (piece : List ℕ) (i : ℕ) → i < length piece →
     GoesOn old mid was half (take i piece) → GoesOn mid new half is (get_or piece i 0 ∷ []) →
     GoesOn old new was is (take (i + 1) piece)
 goes_byte {old = old} {new = new} {was = was} {is = is} piece i lt p q =
     subst (λ v. GoesOn old new was is v) (sym (take_more piece i 0 lt)) (goes_further (take i piece)
     (get_or piece i 0 ∷ []) p q)
 
-pub goes_all : {old new : OutsideShown} {was is : Reading} (piece : List ℕ) (i : ℕ) → length piece ≤ i →
+pub goes_all : {old new : RunShown} {was is : Reading} (piece : List ℕ) (i : ℕ) → length piece ≤ i →
     GoesOn old new was is (take i piece) → GoesOn old new was is piece
 goes_all {old = old} {new = new} {was = was} {is = is} piece i le p = subst (λ v. GoesOn old new was is v)
     (take_all i piece le) p
@@ -548,7 +576,7 @@ place_ahead ahead fits place = record {
 }
 
 -- further bytes were taken before the stop, and none of them was looked at
-pub leaves_ahead : {most n : ℕ} {before now : OutsideShown} {script taken rest : List ℕ} {told : RefusedLines}
+pub leaves_ahead : {most n : ℕ} {before now : RunShown} {script taken rest : List ℕ} {told : LineCounts}
     (ahead : List ℕ) → most + length ahead ≤ n → (stop : LineStop) →
     RunLeaves most before now script taken (ahead ++ rest) (stopped_at (stop_of stop) told) →
     RunLeaves n before now script (taken ++ ahead) rest (stopped_at (stop_of stop) told)
@@ -627,7 +655,7 @@ longer front more later piece is = omega (
 )
 
 -- a stop after some bytes of a piece, and before the rest
-pub breaks_within : {old mid new : OutsideShown} {was half : Reading} {stop : LineStop} {told : RefusedLines}
+pub breaks_within : {old mid new : RunShown} {was half : Reading} {stop : LineStop} {told : LineCounts}
     (front more later piece : List ℕ) →
     piece ≡ (front ++ more) ++ later →
     GoesOn old mid was half front → Breaks mid new half told more stop → Breaks old new was told piece stop
@@ -649,9 +677,10 @@ whole_session files lines session answered =
     session_of_totals files lines session (FollowToHalt-whole files empty_session session lines answered)
 
 -- all lines of a script were answered, and this is told of them
-leaves_whole : {before now : OutsideShown} {script : List ℕ} (out : List ℕ) → Appends before.written now.written out →
+leaves_whole : {before now : RunShown} {script : List ℕ} (out : List ℕ) → Appends before.written now.written out →
     before.steps ≤ now.steps → (standing : Standing) (refused : Bool) (refusals : List ℕ) (lines : ℕ)
-    (refused_lines : List ℕ) (told : RefusedLines) → tells_one told ≡ refused → IsToldOf lines refused_lines told →
+    (refused_lines : List ℕ) (told : LineCounts) → counts_one told ≡ refused →
+    IsToldOf lines refused_lines (record { counts = told; before = before.notes; after = now.notes }) →
     ForSome before.files (λ files. Follow files empty_session (lines_of script) (record {
       text = out;
       refused = refused;
@@ -685,15 +714,15 @@ leaves_whole {before = before} {now = now} {script = script} out appended counte
 
 -- what they have left
 ends_whole : {told : Option FileMap} {script : List ℕ} (session : Session) (kept : Option (Vec ℕ Global))
-    (refused : RefusedLines) → ForSome told (λ files. Follow files empty_session (lines_of script) session) →
-    KeepsRefusals kept session.refusals → IsToldOf session.lines session.refused_lines refused →
+    (refused : LineCounts) → ForSome told (λ files. Follow files empty_session (lines_of script) session) →
+    KeepsRefusals kept session.refusals → AreCounted session.lines session.refused_lines refused →
     ForSome told (λ files. EndsAt files script session.standing kept refused)
 ends_whole {script = script} session kept refused answered are tells = λ files e. record {
   session = session;
   is = whole_session files (lines_of script) session (answered files e);
   left = refl;
   refusals = are;
-  told_is = tells;
+  counted = tells;
 }
 
 -- a script that ends with a line end has no other line
@@ -712,12 +741,12 @@ one_last script some held =
     (open_line script) held))
 
 -- all lines of a script that ends with a line end were answered
-answered_none : {before old : OutsideShown} {script : List ℕ} {was : Reading} → lines_of script ≡ ended_lines script →
+answered_none : {before old : RunShown} {script : List ℕ} {was : Reading} → lines_of script ≡ ended_lines script →
     (stands : Stands before old script was) →
     ForSome before.files (λ files. Follow files empty_session (lines_of script)
     (record {
       text = stands.out;
-      refused = tells_one was.refused_lines;
+      refused = counts_one was.counts;
       refusals = stands.refusals;
       lines = stands.lines;
       refused_lines = stands.refused_lines;
@@ -727,7 +756,7 @@ answered_none : {before old : OutsideShown} {script : List ℕ} {was : Reading} 
 answered_none {before = before} {old = old} {was = was} all stands = λ files e.
     let so_far : Session = record {
       text = stands.out;
-      refused = tells_one was.refused_lines;
+      refused = counts_one was.counts;
       refusals = stands.refusals;
       lines = stands.lines;
       refused_lines = stands.refused_lines;
@@ -736,33 +765,33 @@ answered_none {before = before} {old = old} {was = was} all stands = λ files e.
     } in
     subst (λ v. Follow files empty_session v so_far) (sym all) (stands.answered files e)
 
-pub closes_none : {old : OutsideShown} {was : Reading} → ((line : List ℕ) → Holds was line → length line ≡ 0) →
-    Closes old old was (Ok was.refused_lines)
+pub closes_none : {old : RunShown} {was : Reading} → ((line : List ℕ) → Holds was line → length line ≡ 0) →
+    Closes old old was (Ok was.counts)
 closes_none {was = was} none = record {
   on = λ before script stands.
-      leaves_whole stands.out stands.appended stands.counted was.script (tells_one was.refused_lines) stands.refusals
-      stands.lines stands.refused_lines was.refused_lines refl stands.told
+      leaves_whole stands.out stands.appended stands.counted was.script (counts_one was.counts) stands.refusals
+      stands.lines stands.refused_lines was.counts refl stands.told
       (answered_none (no_last script none stands.held) stands);
 }
 
-pub stays_none : {old : OutsideShown} {was : Reading} → ((line : List ℕ) → Holds was line → length line ≡ 0) →
-    ClosesAt old was was.script was.refusals was.refused_lines
+pub stays_none : {old : RunShown} {was : Reading} → ((line : List ℕ) → Holds was line → length line ≡ 0) →
+    ClosesAt old was was.script was.refusals was.counts
 stays_none {was = was} none = record {
   on = λ before script stands.
-      ends_whole _ was.refusals was.refused_lines
-      (λ files e. answered_none (no_last script none stands.held) stands files e) stands.kept stands.told;
+      ends_whole _ was.refusals was.counts
+      (λ files e. answered_none (no_last script none stands.held) stands files e) stands.kept stands.told.counted;
 }
 
 -- with a last line that no LF ends all were answered
-answered_on : {before old : OutsideShown} (new : OutsideShown) {script : List ℕ} {was : Reading} {to : Standing}
+answered_on : {before old : RunShown} (new : RunShown) {script : List ℕ} {was : Reading} {to : Standing}
     {refused : Bool} →
     lines_of script ≡ ended_lines script ++ open_line script ∷ [] →
-    (answered : IsAnswered old new was.script to
+    (answered : IsAnswered (without_notes old) (without_notes new) was.script to
     (open_line script) refused) → (stands : Stands before old script was) →
     ForSome before.files (λ files. Follow files empty_session (lines_of script)
     (record {
       text = stands.out ++ (answered.answer).text;
-      refused = tells_one was.refused_lines || refused;
+      refused = counts_one was.counts || refused;
       refusals = stands.refusals ++ refusal_of answered.answer;
       lines = stands.lines + 1;
       refused_lines = noted stands.refused_lines (stands.lines + 1) (answered.answer).refused;
@@ -777,7 +806,7 @@ answered_on {before = before} {old = old} new {script = script} {was = was} {to 
     let steps : (old.steps - before.steps) + (answered.answer).steps ≡ new.steps - before.steps = omega arith in
     let at_last : Session = record {
       text = stands.out ++ (answered.answer).text;
-      refused = tells_one was.refused_lines || refused;
+      refused = counts_one was.counts || refused;
       refusals = stands.refusals ++ refusal_of answered.answer;
       lines = stands.lines + 1;
       refused_lines = noted stands.refused_lines (stands.lines + 1) (answered.answer).refused;
@@ -786,46 +815,46 @@ answered_on {before = before} {old = old} new {script = script} {was = was} {to 
     } in
     subst (λ v. Follow files empty_session v at_last) (sym all)
     (subst (λ v. Follow files empty_session (ended_lines script ++ line ∷ []) v) (session_same refl (ap
-    (λ v. tells_one was.refused_lines || v) (sym answered.marked)) steps refl)
+    (λ v. counts_one was.counts || v) (sym answered.marked)) steps refl)
     (Follow-next files empty_session _ (ended_lines script) line to answered.answer (stands.answered files e)
     (answered.is files (stands.same ∙ e))))
 
-pub closes_on : {old new : OutsideShown} {was : Reading} {to : Standing} {kept : Option
-    (Vec ℕ Global)} {refused : Bool} {told : RefusedLines} → ((line : List ℕ) →
+pub closes_on : {old new : RunShown} {was : Reading} {to : Standing} {kept : Option
+    (Vec ℕ Global)} {refused : Bool} {told : LineCounts} → ((line : List ℕ) →
     Holds was line → 0 < length line) →
     ((line : List ℕ) → Holds was line →
-    IsDelivered old new was.script to was.refusals kept line refused) →
-    Notes was.refused_lines told refused → Closes old new was (Ok told)
+    IsDelivered (without_notes old) (without_notes new) was.script to was.refusals kept line refused) →
+    Notes was.counts old.notes told new.notes refused → Closes old new was (Ok told)
 closes_on {old = old} {new = new} {was = was} {to = to} {refused = refused} {told = told} some answers notes = record {
   on = λ before script stands.
-      let tells = notes stands.lines stands.refused_lines stands.told in
+      let tells = notes before.notes stands.lines stands.refused_lines stands.told in
       let answered = (answers (open_line script) stands.held).answered in
       let rose : before.steps ≤ old.steps = stands.counted in
       let counted : new.steps ≡ old.steps + (answered.answer).steps = answered.counted in
       leaves_whole (stands.out ++ (answered.answer).text)
       (Appends-then before.written old.written new.written stands.out
       (answered.answer).text stands.appended answered.appended) (omega arith)
-      to (tells_one was.refused_lines || refused) (stands.refusals ++ refusal_of answered.answer) (stands.lines + 1)
+      to (counts_one was.counts || refused) (stands.refusals ++ refusal_of answered.answer) (stands.lines + 1)
       (noted stands.refused_lines (stands.lines + 1) (answered.answer).refused) told
-      (tells_noted stands.refused_lines (stands.lines + 1) refused stands.told tells)
-      (told_more (stands.lines + 1) stands.refused_lines told refused (answered.answer).refused answered.marked tells)
+      (tells_noted stands.refused_lines (stands.lines + 1) refused stands.told.counted tells.counted)
+      (told_more (stands.lines + 1) stands.refused_lines _ refused (answered.answer).refused answered.marked tells)
       (answered_on new (one_last script some stands.held) answered stands);
 }
 
-pub stays_on : {old : OutsideShown} (new : OutsideShown) {was : Reading} {to : Standing} {kept : Option
-    (Vec ℕ Global)} {refused : Bool} {told : RefusedLines} → ((line : List ℕ) →
+pub stays_on : {old : RunShown} (new : RunShown) {was : Reading} {to : Standing} {kept : Option
+    (Vec ℕ Global)} {refused : Bool} {told : LineCounts} → ((line : List ℕ) →
     Holds was line → 0 < length line) →
     ((line : List ℕ) → Holds was line →
-    IsDelivered old new was.script to was.refusals kept line refused) →
-    Notes was.refused_lines told refused → ClosesAt old was to kept told
+    IsDelivered (without_notes old) (without_notes new) was.script to was.refusals kept line refused) →
+    Notes was.counts old.notes told new.notes refused → ClosesAt old was to kept told
 stays_on new {was = was} {kept = kept} {refused = refused} {told = told} some answers notes = record {
   on = λ before script stands.
       let delivered = answers (open_line script) stands.held in
       ends_whole _ kept told (λ files e. answered_on new (one_last script some stands.held) delivered.answered stands
       files e)
       (kept_more was.refusals kept (delivered.answered).answer stands.refusals delivered.kept stands.kept)
-      (told_more (stands.lines + 1) stands.refused_lines told refused (delivered.answered).answer.refused
-      (delivered.answered).marked (notes stands.lines stands.refused_lines stands.told));
+      (told_more (stands.lines + 1) stands.refused_lines _ refused (delivered.answered).answer.refused
+      (delivered.answered).marked (notes before.notes stands.lines stands.refused_lines stands.told)).counted;
 }
 
 last_place : (script line : List ℕ) → lines_of script ≡ ended_lines script ++ line ∷ [] → IsAtLine 0 script script
@@ -842,19 +871,20 @@ last_place script line all = record {
 }
 
 -- a stop at the last line
-pub closes_broken : {old new : OutsideShown} {was : Reading} {told : RefusedLines} → new.files ≡ old.files →
+pub closes_broken : {old new : RunShown} {was : Reading} {told : LineCounts} → new.files ≡ old.files →
     ((line : List ℕ) → Holds was line →
     0 < length line) → (stop : LineStop) →
-    ((line : List ℕ) → Holds was line → BreaksLine old new was.script line stop) →
-    (stop ≢ Memory → told ≡ was.refused_lines) → Closes old new was (stopped_at (stop_of stop) told)
-closes_broken same some stop broken unchanged = record {
+    ((line : List ℕ) → Holds was line → BreaksLine (without_notes old) (without_notes new) was.script line stop) →
+    (stop ≢ Memory → told ≡ was.counts) → (stop ≢ Memory → new.notes ≡ old.notes) →
+    Closes old new was (stopped_at (stop_of stop) told)
+closes_broken same some stop broken unchanged silent = record {
   on = λ before script stands.
       leaves_broken same (last_place script (open_line script) (one_last script some stands.held)) stop
-      (broken (open_line script) stands.held) unchanged stands;
+      (broken (open_line script) stands.held) unchanged silent stands;
 }
 
 -- the same stop, where a `?` passes it on
-pub closes_at : {old new : OutsideShown} {was : Reading} (result : Result ⊤ LineStop) (told : RefusedLines)
+pub closes_at : {old new : RunShown} {was : Reading} (result : Result ⊤ LineStop) (told : LineCounts)
     (stop : LineStop) → result ≡ Err stop → Closes old new was (stopped_at (stop_of stop) told) →
     Closes old new was (last_result result told)
 closes_at {old = old} {new = new} {was = was} result told stop is closes =

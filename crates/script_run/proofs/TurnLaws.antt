@@ -13,7 +13,8 @@ use Rattle.script_steps.specs.declared.stop.LineStop.{LineStop}
 use Rattle.script_run.specs.Limits.{most_script, most_turn}
 use Rattle.script_run.specs.Transcripts.{ended_lines, lines_of}
 use Rattle.script_run.specs.Stops.{stop_of}
-use Rattle.script_steps.specs.Shown.{OutsideShown, shown}
+use Rattle.script_steps.specs.Shown.{shown}
+use Rattle.script_run.specs.Notes.{NotesShown, RunShown, with_notes}
 use Rattle.script_run.specs.private.RunClauses.{told_by, EndsAt}
 use Rattle.script_run.specs.RunClauses.{Course, IsExactly, RunLeaves, RunMeets, RunResult}
 use Rattle.script_run.specs.private.RunViews.{IsAtStart, Stands, GoesOn, Breaks, Closes, ClosesAt, TakesAll}
@@ -21,7 +22,7 @@ use Rattle.script_run.specs.private.RunViews.{stopped_at, last_result, read_resu
 use Rattle.script_run.specs.declared.stop.Stop.{Stop}
 use Rattle.script_run.specs.declared.stop.Stop.TheVariants as stops
 use Rattle.script_run.specs.declared.reading.Reading.{Reading}
-use Rattle.script_run.specs.declared.refused_lines.RefusedLines.{RefusedLines}
+use Rattle.script_run.specs.declared.line_counts.LineCounts.{LineCounts}
 use Rattle.script_run.proofs.Laws.{answered_of}
 use Rattle.script_run.proofs.LineLaws.{Begins, lines_of-append}
 use Rattle.script_run.proofs.StepLaws.{stands_first, leaves_ahead, front_so_far}
@@ -46,7 +47,7 @@ end_told : (now : Option (List ℕ)) (rest : List ℕ) → now ≡ Some rest →
 end_told now rest e at_end = subst IsAtEnd e at_end
 
 -- of a run over a source, between two turns
-pub record Stood (before now : OutsideShown) (left left_now : Option (List ℕ)) (count : ℕ)
+pub record Stood (before now : RunShown) (left left_now : Option (List ℕ)) (count : ℕ)
     (reading : Reading) : Type 0 where
   pub bytes : List ℕ
   pub consumed : Consumes left left_now bytes
@@ -54,7 +55,7 @@ pub record Stood (before now : OutsideShown) (left left_now : Option (List ℕ))
   pub stands : Stands before now bytes reading
 
 -- before the first turn
-pub stood_first : (before : OutsideShown) (left : Option (List ℕ)) (reading : Reading) → IsAtStart reading →
+pub stood_first : (before : RunShown) (left : Option (List ℕ)) (reading : Reading) → IsAtStart reading →
     Stood before before left left 0 reading
 stood_first before left reading first = record {
   bytes = [];
@@ -64,7 +65,7 @@ stood_first before left reading first = record {
 }
 
 -- a turn's bytes were taken and answered
-pub stood_on : {before mid now : OutsideShown} {l0 l l' : Option (List ℕ)} {count n : ℕ} {was is : Reading}
+pub stood_on : {before mid now : RunShown} {l0 l l' : Option (List ℕ)} {count n : ℕ} {was is : Reading}
     (piece : List ℕ) → length piece ≡ n → Consumes l l' piece → GoesOn mid now was is piece →
     Stood before mid l0 l count was → Stood before now l0 l' (count + n) is
 stood_on {before = before} {l0 = l0} {l = l} {l' = l'} piece size consumed goes stood = record {
@@ -79,7 +80,7 @@ begins_at taken rest script split = subst (λ v. Begins (ended_lines taken) (lin
     (lines_of-append taken rest)
 
 -- memory ran out before anything was done
-pub meets_nothing : (before : OutsideShown) (left : Option (List ℕ)) (told : RefusedLines) (script : List ℕ) →
+pub meets_nothing : (before : RunShown) (left : Option (List ℕ)) (told : LineCounts) (script : List ℕ) →
     left ≡ Some script → RunMeets before before script left (stopped_at stops.Memory told)
 meets_nothing before left told script is = record {
   taken = [];
@@ -97,9 +98,9 @@ meets_nothing before left told script is = record {
 }
 
 -- the source failed
-pub meets_read : {before now : OutsideShown} {l0 l l' : Option (List ℕ)} {count : ℕ} {reading : Reading} →
+pub meets_read : {before now : RunShown} {l0 l l' : Option (List ℕ)} {count : ℕ} {reading : Reading} →
     Stood before now l0 l count reading → Keeps l l' → count ≤ most_script →
-    (script : List ℕ) → l0 ≡ Some script → RunMeets before now script l' (stopped_at stops.Read reading.refused_lines)
+    (script : List ℕ) → l0 ≡ Some script → RunMeets before now script l' (stopped_at stops.Read reading.counts)
 meets_read {l0 = l0} {l = l} {l' = l'} stood kept within script is =
     let consumed = subst (λ v. Consumes l0 l' v) (append-nil stood.bytes)
     (Consumes-then l0 l l' stood.bytes [] stood.consumed (Consumes-kept l l' kept)) in
@@ -138,11 +139,11 @@ exactly_at : (bytes cut : List ℕ) → bytes ≡ cut → (files : FileMap) (cou
 exactly_at bytes cut same files course exact = subst (λ v. IsExactly files (ended_lines v) course) same exact
 
 -- the script goes on past its limit
-pub meets_long : {before now : OutsideShown} {l0 l l' : Option (List ℕ)} {count n : ℕ} {reading : Reading}
+pub meets_long : {before now : RunShown} {l0 l l' : Option (List ℕ)} {count n : ℕ} {reading : Reading}
     (piece : List ℕ) →
     length piece ≡ n → Consumes l l' piece → Stood before now l0 l count reading →
     count ≡ most_script → count + n ≡ most_script + 1 → (script : List ℕ) → l0 ≡ Some script →
-    RunMeets before now script l' (stopped_at stops.Long reading.refused_lines)
+    RunMeets before now script l' (stopped_at stops.Long reading.counts)
 meets_long {l0 = l0} {l = l} {l' = l'} piece size consumed stood full past script is =
     let taken = stood.bytes ++ piece in
     let left = split_told l0 l' taken script is (Consumes-then l0 l l' stood.bytes piece stood.consumed consumed) in
@@ -176,7 +177,7 @@ meets_long {l0 = l0} {l = l} {l' = l'} piece size consumed stood full past scrip
       };
     }
 
-leaves_turn : {most : ℕ} {before now : OutsideShown} {script taken rest : List ℕ} {told : RefusedLines} →
+leaves_turn : {most : ℕ} {before now : RunShown} {script taken rest : List ℕ} {told : LineCounts} →
     most ≤ most_turn → (stop : LineStop) →
     RunLeaves most before now script taken rest (stopped_at (stop_of stop) told) →
     RunLeaves most_turn before now script taken rest (stopped_at (stop_of stop) told)
@@ -186,8 +187,8 @@ leaves_turn {most = most} {before = before} {now = now} {script = script} {taken
     (leaves_ahead [] (omega arith) stop leaves)
 
 -- a stop within a turn's bytes
-pub meets_break : {before mid now : OutsideShown} {l0 l l' : Option
-    (List ℕ)} {count n : ℕ} {reading : Reading} {stop : LineStop} {told : RefusedLines} (piece : List ℕ) →
+pub meets_break : {before mid now : RunShown} {l0 l l' : Option
+    (List ℕ)} {count n : ℕ} {reading : Reading} {stop : LineStop} {told : LineCounts} (piece : List ℕ) →
     length piece ≡ n → n ≤ most_turn → count + n ≤ most_script →
     Consumes l l' piece → Stood before mid l0 l count reading → Breaks mid now reading told piece stop →
     (script : List ℕ) → l0 ≡ Some script → RunMeets before now script l' (stopped_at (stop_of stop) told)
@@ -206,7 +207,7 @@ meets_break {before = before} {now = now} {l0 = l0} {l = l} {l' = l'} {stop = st
           (sym left.split) leaves;
     }
 
-leaves_end : {before now : OutsideShown} {script : List ℕ} (line : Result ⊤ LineStop) (told : RefusedLines) →
+leaves_end : {before now : RunShown} {script : List ℕ} (line : Result ⊤ LineStop) (told : LineCounts) →
     RunLeaves 0 before now script script [] (last_result line told) →
     RunLeaves most_turn before now script script [] (last_result line told)
 leaves_end (Ok done) told leaves = record {
@@ -227,7 +228,7 @@ record IsTakenWhole (bytes script : List ℕ) (left : Option (List ℕ)) : Type 
   pub whole : bytes ≡ script
   pub none_left : left ≡ Some []
 
-all_taken : {before mid : OutsideShown} {l0 l' : Option (List ℕ)} {reading : Reading}
+all_taken : {before mid : RunShown} {l0 l' : Option (List ℕ)} {reading : Reading}
     (all : TakesAll before mid l0 l' reading) (script : List ℕ) →
     l0 ≡ Some script → IsTakenWhole all.bytes script l'
 all_taken {l0 = l0} {l' = l'} all script is =
@@ -240,9 +241,9 @@ all_taken {l0 = l0} {l' = l'} all script is =
     }
 
 -- the script is at its end
-pub meets_end : {before mid now : OutsideShown} {l0 l' : Option (List ℕ)} {reading : Reading} →
+pub meets_end : {before mid now : RunShown} {l0 l' : Option (List ℕ)} {reading : Reading} →
     TakesAll before mid l0 l' reading →
-    (line : Result ⊤ LineStop) (told : RefusedLines) → Closes mid now reading (last_result line told) →
+    (line : Result ⊤ LineStop) (told : LineCounts) → Closes mid now reading (last_result line told) →
     (script : List ℕ) → l0 ≡ Some script → RunMeets before now script l' (last_result line told)
 meets_end {before = before} {mid = mid} {now = now} {l0 = l0} {l' = l'} {reading = reading}
     all line told closes script is =
@@ -258,8 +259,8 @@ meets_end {before = before} {mid = mid} {now = now} {l0 = l0} {l' = l'} {reading
     }
 
 -- what the script's lines have left at last
-pub ends_at : {before mid : OutsideShown} {l0 l' : Option (List ℕ)} {reading : Reading} {standing : Standing}
-    {kept : Option (Vec ℕ Global)} {told : RefusedLines} →
+pub ends_at : {before mid : RunShown} {l0 l' : Option (List ℕ)} {reading : Reading} {standing : Standing}
+    {kept : Option (Vec ℕ Global)} {told : LineCounts} →
     TakesAll before mid l0 l' reading →
     ClosesAt mid reading standing kept told → (script : List ℕ) → l0 ≡ Some script →
     ForSome before.files (λ files. EndsAt files script standing kept told)
@@ -267,16 +268,16 @@ ends_at {before = before} {mid = mid} {l0 = l0} {l' = l'} {reading = reading} al
     closes.on before script (subst (λ v. Stands before mid v reading) (all_taken all script is).whole all.stands)
 
 -- the same stop
-pub meets_at : {before now : OutsideShown} {script : List ℕ} {left : Option (List ℕ)} {T : Type 0} {found : Stop}
-    {told : RefusedLines} (stop : Stop) → ◌≡◌ {A = Result T Stop} (Err found) (Err stop) →
+pub meets_at : {before now : RunShown} {script : List ℕ} {left : Option (List ℕ)} {T : Type 0} {found : Stop}
+    {told : LineCounts} (stop : Stop) → ◌≡◌ {A = Result T Stop} (Err found) (Err stop) →
     RunMeets before now script left (stopped_at found told) → RunMeets before now script left (stopped_at stop told)
 meets_at {before = before} {now = now} {script = script} {left = left} {found = found} {told = told} stop is meets =
     let same : found ≡ stop = cc in
     subst (λ v. RunMeets before now script left (stopped_at v told)) same meets
 
 -- a stop before the end, where a `?` passes it on
-pub meets_err : {before now : OutsideShown} {script : List ℕ} {left : Option (List ℕ)} {stop : Stop}
-    (result : Result ⊤ Stop) (told : RefusedLines) → result ≡ Err stop →
+pub meets_err : {before now : RunShown} {script : List ℕ} {left : Option (List ℕ)} {stop : Stop}
+    (result : Result ⊤ Stop) (told : LineCounts) → result ≡ Err stop →
     RunMeets before now script left (stopped_at stop told) → RunMeets before now script left (read_result result told)
 meets_err {before = before} {now = now} {script = script} {left = left} result told is meets =
     subst (λ v. RunMeets before now script left (read_result v told)) (sym is) meets
@@ -288,9 +289,15 @@ told_same a b written same = ap (λ (t : Bool). if t then None else written) sam
 
 -- the same run, of which the same is shown
 pub meets_shown : {files files' : Option FileMap} {failed failed' w w' u u' : Option (List ℕ)} {began steps : ℕ}
-    {script : List ℕ} {left : Option (List ℕ)} {result : RunResult} →
-    w ≡ u → w' ≡ u' → RunMeets (shown files failed w began) (shown files' failed' w' steps) script left result →
-    RunMeets (shown files failed u began) (shown files' failed' u' steps) script left result
-meets_shown {files = files} {files' = files'} {failed = failed} {failed' = failed'} {w' = w'} {u = u} {began = began} {steps = steps} {script = script} {left = left} {result = result} p q meets =
-    subst (λ v. RunMeets (shown files failed u began) (shown files' failed' v steps) script left result) q
-    (subst (λ v. RunMeets (shown files failed v began) (shown files' failed' w' steps) script left result) p meets)
+    {notes notes' : NotesShown} {script : List ℕ} {left : Option (List ℕ)} {result : RunResult} →
+    w ≡ u → w' ≡ u' →
+    RunMeets (with_notes (shown files failed w began) notes) (with_notes (shown files' failed' w' steps) notes')
+    script left result →
+    RunMeets (with_notes (shown files failed u began) notes) (with_notes (shown files' failed' u' steps) notes')
+    script left result
+meets_shown {files = files} {files' = files'} {failed = failed} {failed' = failed'} {w' = w'} {u = u} {began = began}
+    {steps = steps} {notes = notes} {notes' = notes'} {script = script} {left = left} {result = result} p q meets =
+    subst (λ v. RunMeets (with_notes (shown files failed u began) notes) (with_notes (shown files' failed' v steps) notes')
+    script left result) q
+    (subst (λ v. RunMeets (with_notes (shown files failed v began) notes)
+    (with_notes (shown files' failed' w' steps) notes') script left result) p meets)

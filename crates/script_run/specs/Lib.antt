@@ -1,5 +1,6 @@
 pub mod Limits
-pub mod RefusedLines
+pub mod LineCounts
+pub mod Notes
 pub mod Transcripts
 pub mod TranscriptLaws
 pub mod Stops

@@ -11,10 +11,6 @@ most_script = 67108864
 abbrev pub most_turn : ℕ
 most_turn = 65536
 
--- at most so many refused lines are told one by one
-abbrev pub most_told : ℕ
-most_told = 20
-
 -- a sample has at most so many employees
 abbrev pub most_employees : ℕ
 most_employees = 200

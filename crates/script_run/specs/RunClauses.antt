@@ -2,7 +2,6 @@
 use Rattle.std.specs.Prelude.{◌≡◌, ◌≢◌, ◌⊎◌, ℕ, ◌+◌, ◌-◌, ◌<◌, ◌≤◌, Bool, List, [], ◌∷◌, ◌++◌, length, take, All, Option, Some, Result, Ok, Err, ⊤}
 use Rattle.std.specs.Option.{ForSome}
 use Rattle.outside.specs.Told.{FileMap, Appends}
-use Rattle.script_steps.specs.Shown.{OutsideShown}
 use Rattle.script_steps.specs.Steps.{Standing, Answer, Names, AreThere, IsStep}
 use Rattle.script_steps.specs.LineSteps.{IsNextFile}
 use Rattle.script_run.specs.Limits.{most_script, most_turn}
@@ -11,8 +10,9 @@ use Rattle.script_run.specs.declared.turns.Ended.{Ended}
 use Rattle.script_run.specs.declared.turns.Unwritten.{Unwritten}
 use Rattle.script_run.specs.declared.stop.Stop.{Stop}
 use Rattle.script_run.specs.declared.stop.Stopped.{Stopped}
-use Rattle.script_run.specs.RefusedLines.{IsToldOf, tells_one}
-use Rattle.script_run.specs.declared.refused_lines.RefusedLines.{RefusedLines}
+use Rattle.script_run.specs.LineCounts.{AreCounted, counts_one}
+use Rattle.script_run.specs.Notes.{IsToldOf, RunShown, Telling}
+use Rattle.script_run.specs.declared.line_counts.LineCounts.{LineCounts}
 use Rattle.script_run.specs.declared.stop.Stop.TheVariants as stops
 
 -- how far a run came: the script, what was taken of it and what is left, what was written and counted since it began,
@@ -23,7 +23,7 @@ pub record Course : Type 0 where
   pub rest : List ℕ
   pub out : List ℕ
   pub spent : ℕ
-  pub told : RefusedLines
+  pub told : Telling
 
 -- what was written is a prefix of this session's text, and at most its steps were counted
 pub record IsFrontOfSession (session : Session) (out : List ℕ) (spent : ℕ) : Type 0 where
@@ -128,23 +128,23 @@ RunSays most told course failed (Err stops.Write) = IsWriteStop most told course
 RunSays most told course failed (Err stops.Memory) = ⊤
 RunSays most told course failed (Err stops.Long) = IsLongStop told course
 
--- a run's result: what it tells of refused lines at its end, or where it stopped
+-- a run's result: how many lines were answered and refused at its end, or where it stopped
 abbrev pub RunResult : Type 0
-RunResult = Result RefusedLines Stopped
+RunResult = Result LineCounts Stopped
 
--- what a run tells of refused lines
-abbrev pub told_of : RunResult → RefusedLines
-told_of (Ok told) = told
-told_of (Err stopped) = stopped.refused_lines
+-- how many lines a run answered and refused
+abbrev pub counts_of : RunResult → LineCounts
+counts_of (Ok counts) = counts
+counts_of (Err stopped) = stopped.counts
 
 -- whether a line was refused, or why the run stopped
 abbrev pub ended_of : RunResult → Result Bool Stop
-ended_of (Ok told) = Ok (tells_one told)
+ended_of (Ok counts) = Ok (counts_one counts)
 ended_of (Err stopped) = Err stopped.stop
 
 -- what a run wrote, counted and told that took this of a script and left the rest: always a prefix of the transcript,
 -- and what its result says
-pub record RunLeaves (most : ℕ) (before after : OutsideShown) (script taken rest : List ℕ)
+pub record RunLeaves (most : ℕ) (before after : RunShown) (script taken rest : List ℕ)
     (result : RunResult) : Type 0 where
   pub out : List ℕ
   pub appended : Appends before.written after.written out
@@ -158,12 +158,12 @@ pub record RunLeaves (most : ℕ) (before after : OutsideShown) (script taken re
         rest = rest;
         out = out;
         spent = after.steps - before.steps;
-        told = told_of result;
+        told = record { counts = counts_of result; before = before.notes; after = after.notes };
       })
       after.failed (ended_of result)
 
 -- what a run leaves over a source that tells this script: what was taken is a prefix of it, within the limit of scripts
-pub record RunMeets (before after : OutsideShown) (script : List ℕ) (left : Option (List ℕ))
+pub record RunMeets (before after : RunShown) (script : List ℕ) (left : Option (List ℕ))
     (result : RunResult) : Type 0 where
   pub taken : List ℕ
   pub rest : List ℕ
@@ -177,17 +177,24 @@ abbrev pub by_stop : {T : Type 0} → Result T Stopped → Result T Stop
 by_stop (Ok value) = Ok value
 by_stop (Err stopped) = Err stopped.stop
 
--- the result of a call as a run's, where the value at its end has what the run tells
-abbrev pub run_result : {T : Type 0} → (T → RefusedLines) → Result T Stopped → RunResult
-run_result told_in (Ok value) = Ok (told_in value)
-run_result told_in (Err stopped) = Err stopped
+-- the result of a call as a run's, where the value at its end has how many lines there were
+abbrev pub run_result : {T : Type 0} → (T → LineCounts) → Result T Stopped → RunResult
+run_result counts_in (Ok value) = Ok (counts_in value)
+run_result counts_in (Err stopped) = Err stopped
+
+-- the lines of a script have left this, and so many there were
+pub record EndsWritten (files : FileMap) (script : List ℕ) (ended : Ended) : Type 0 where
+  pub session : Session
+  pub is : IsTranscript files script session
+  pub counted : AreCounted session.lines session.refused_lines ended.counts
+  pub left : ended.script ≡ session.standing
 
 -- the lines of a script whose answers weren't written have left this, and these were its refusals
 pub record EndsUnwritten (files : FileMap) (script : List ℕ) (ended : Unwritten) : Type 0 where
   pub session : Session
   pub is : IsTranscript files script session
-  pub mark : tells_one ended.refused_lines ≡ session.refused
-  pub told : IsToldOf session.lines session.refused_lines ended.refused_lines
+  pub mark : counts_one ended.counts ≡ session.refused
+  pub counted : AreCounted session.lines session.refused_lines ended.counts
   pub refusals : (ended.refusals).items ≡ session.refusals
   pub left : ended.script ≡ session.standing
 
@@ -196,8 +203,8 @@ pub record IsFinished (files : FileMap) (script : List ℕ) (began steps : ℕ)
     (ended : Ended) : Type 0 where
   pub session : Session
   pub is : IsTranscript files script session
-  pub mark : tells_one ended.refused_lines ≡ session.refused
-  pub told : IsToldOf session.lines session.refused_lines ended.refused_lines
+  pub mark : counts_one ended.counts ≡ session.refused
+  pub counted : AreCounted session.lines session.refused_lines ended.counts
   pub cost : steps ≡ began + session.steps
   pub left : ended.script ≡ session.standing
 

@@ -1,3 +1,3 @@
-pub mod RefusedLines
+pub mod LineCounts
 pub mod RunClauses
 pub mod RunViews

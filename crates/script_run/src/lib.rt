@@ -2,15 +2,15 @@
 #![tactic(auto)]
 
 mod deliver;
+mod line_counts;
 mod memory;
 mod reading;
-mod refused_lines;
 mod sample;
 mod stop;
 mod transcript;
 mod turns;
 
-pub use refused_lines::{RefusedLine, RefusedLines};
+pub use line_counts::LineCounts;
 pub use sample::{MOST_EMPLOYEES, run_sample, sample_line_count};
 pub use script_lang::MOST_LINE;
 pub use stop::{Stop, Stopped};

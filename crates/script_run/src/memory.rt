@@ -34,7 +34,16 @@ pub(crate) fn run_in_memory<L: Ledger>(
     let mut files = SureFiles::new(files);
     let mut source = SureSource::new(script, MOST_TURN);
     let mut sink = SureSink::new();
-    match run_to_end(alloc, None, &mut files, &mut source, &mut sink, steps) {
+    let mut notes = SureSink::new();
+    match run_to_end(
+        alloc,
+        None,
+        &mut files,
+        &mut source,
+        &mut sink,
+        &mut notes,
+        steps,
+    ) {
         Ok(made) => Ok(made.ended),
         Err(stopped) => match stopped.stop {
             Stop::Memory => Err(AllocError),

@@ -5,12 +5,12 @@ ghost use Rattle.std.specs.Result.{ForErr};
 ghost use Rattle.std.specs.Str.Lines.{strip_carriage_return};
 ghost use Rattle.outside.specs.Causes.{Caused};
 ghost use Rattle.script_steps.specs.Steps.{first_standing};
-ghost use Rattle.script_run.specs.private.RunClauses.{KeepsRefusals, shown_beside};
+ghost use Rattle.script_run.specs.private.RunClauses.{KeepsRefusals, beside};
 ghost use Rattle.script_run.specs.private.RunViews.{Holds, IsSameSoFar, IsAtStart};
 ghost use Rattle.script_run.specs.private.RunViews.{GoesOn, Breaks, Closes, ClosesAt, last_result};
 
 use crate::deliver::deliver;
-use crate::refused_lines::RefusedLines;
+use crate::line_counts::LineCounts;
 use outside::{Files, Sink};
 use script_lang::MOST_LINE;
 use script_steps::{LineStop, Script};
@@ -27,8 +27,8 @@ pub(crate) struct Reading {
     pub(crate) long: bool,
     /// What the lines before it have made.
     pub(crate) script: Script,
-    /// Which lines were refused.
-    pub(crate) refused_lines: RefusedLines,
+    /// How many lines were answered and refused.
+    pub(crate) counts: LineCounts,
     /// The answers that were refusals, where they are kept and no answer is written.
     pub(crate) refusals: Option<Vec<u8>>,
 }
@@ -44,7 +44,7 @@ impl Reading {
             line: Vec::new(alloc),
             long: false,
             script: Script::new(alloc),
-            refused_lines: RefusedLines::new(alloc),
+            counts: LineCounts::new(),
             refusals,
         }
     }
@@ -63,22 +63,23 @@ impl Reading {
         Ok(())
     }
 
-    /// Answers the line that an LF ends. The next line begins.
-    fn end_line<F: Files, W: Sink, L: Ledger>(
+    /// Answers the line that an LF ends, and puts to the notes why it is refused, where it is. The next line begins.
+    fn end_line<F: Files, W: Sink, N: Sink, L: Ledger>(
         &mut self,
         alloc: Global,
         files: &mut F,
         sink: &mut W,
+        notes: &mut N,
         steps: &mut Steps<L>,
     ) -> Result<(), LineStop>
         ensures ok { OnOk result (GoesOn
-            (shown_beside self.old.refusals F.Files W.Sink files.old sink.old steps.old)
-            (shown_beside self.new.refusals F.Files W.Sink files.new sink.new steps.new)
+            (beside self.old.refusals F.Files W.Sink N.Sink files.old sink.old notes.old steps.old)
+            (beside self.new.refusals F.Files W.Sink N.Sink files.new sink.new notes.new steps.new)
             self.old self.new (10 ∷ [])) }
         ensures err { ForErr result (λ stop. Breaks
-            (shown_beside self.old.refusals F.Files W.Sink files.old sink.old steps.old)
-            (shown_beside self.new.refusals F.Files W.Sink files.new sink.new steps.new)
-            self.old self.new.refused_lines (10 ∷ []) stop) }
+            (beside self.old.refusals F.Files W.Sink N.Sink files.old sink.old notes.old steps.old)
+            (beside self.new.refusals F.Files W.Sink N.Sink files.new sink.new notes.new steps.new)
+            self.old self.new.counts (10 ∷ []) stop) }
         ensures mode { is_some self.new.refusals ≡ is_some self.old.refusals }
         ensures same { F.told files.new ≡ F.told files.old }
         ensures kept { result ≢ Err LineStop.File → F.failed files.new ≡ F.failed files.old }
@@ -95,29 +96,30 @@ impl Reading {
             sink,
             steps,
         )?;
-        self.refused_lines.note(wrong)?;
+        self.counts.note(alloc, notes, wrong)?;
         self.line.clear();
         self.long = false;
         Ok(())
     }
 
     /// Takes one more byte of the script, and answers the line that it ends.
-    fn take_byte<F: Files, W: Sink, L: Ledger>(
+    fn take_byte<F: Files, W: Sink, N: Sink, L: Ledger>(
         &mut self,
         alloc: Global,
         byte: u8,
         files: &mut F,
         sink: &mut W,
+        notes: &mut N,
         steps: &mut Steps<L>,
     ) -> Result<(), LineStop>
         ensures ok { OnOk result (GoesOn
-            (shown_beside self.old.refusals F.Files W.Sink files.old sink.old steps.old)
-            (shown_beside self.new.refusals F.Files W.Sink files.new sink.new steps.new)
+            (beside self.old.refusals F.Files W.Sink N.Sink files.old sink.old notes.old steps.old)
+            (beside self.new.refusals F.Files W.Sink N.Sink files.new sink.new notes.new steps.new)
             self.old self.new (byte ∷ [])) }
         ensures err { ForErr result (λ stop. Breaks
-            (shown_beside self.old.refusals F.Files W.Sink files.old sink.old steps.old)
-            (shown_beside self.new.refusals F.Files W.Sink files.new sink.new steps.new)
-            self.old self.new.refused_lines (byte ∷ []) stop) }
+            (beside self.old.refusals F.Files W.Sink N.Sink files.old sink.old notes.old steps.old)
+            (beside self.new.refusals F.Files W.Sink N.Sink files.new sink.new notes.new steps.new)
+            self.old self.new.counts (byte ∷ []) stop) }
         ensures mode { is_some self.new.refusals ≡ is_some self.old.refusals }
         ensures same { F.told files.new ≡ F.told files.old }
         ensures kept { result ≢ Err LineStop.File → F.failed files.new ≡ F.failed files.old }
@@ -125,29 +127,30 @@ impl Reading {
         ensures write { Caused LineStop.Write (W.faults sink.old) (W.faults sink.new) result }
     {
         if byte == b'\n' {
-            return self.end_line(alloc, files, sink, steps);
+            return self.end_line(alloc, files, sink, notes, steps);
         }
         self.push(byte)?;
         Ok(())
     }
 
     /// Takes these bytes of the script, and answers the lines that end in them.
-    pub(crate) fn feed<F: Files, W: Sink, L: Ledger>(
+    pub(crate) fn feed<F: Files, W: Sink, N: Sink, L: Ledger>(
         &mut self,
         alloc: Global,
         piece: &[u8],
         files: &mut F,
         sink: &mut W,
+        notes: &mut N,
         steps: &mut Steps<L>,
     ) -> Result<(), LineStop>
         ensures ok { OnOk result (GoesOn
-            (shown_beside self.old.refusals F.Files W.Sink files.old sink.old steps.old)
-            (shown_beside self.new.refusals F.Files W.Sink files.new sink.new steps.new)
+            (beside self.old.refusals F.Files W.Sink N.Sink files.old sink.old notes.old steps.old)
+            (beside self.new.refusals F.Files W.Sink N.Sink files.new sink.new notes.new steps.new)
             self.old self.new piece.now) }
         ensures err { ForErr result (λ stop. Breaks
-            (shown_beside self.old.refusals F.Files W.Sink files.old sink.old steps.old)
-            (shown_beside self.new.refusals F.Files W.Sink files.new sink.new steps.new)
-            self.old self.new.refused_lines piece.now stop) }
+            (beside self.old.refusals F.Files W.Sink N.Sink files.old sink.old notes.old steps.old)
+            (beside self.new.refusals F.Files W.Sink N.Sink files.new sink.new notes.new steps.new)
+            self.old self.new.counts piece.now stop) }
         ensures mode { is_some self.new.refusals ≡ is_some self.old.refusals }
         ensures same { F.told files.new ≡ F.told files.old }
         ensures kept { result ≢ Err LineStop.File → F.failed files.new ≡ F.failed files.old }
@@ -155,26 +158,27 @@ impl Reading {
         ensures write { Caused LineStop.Write (W.faults sink.old) (W.faults sink.new) result }
     {
         for byte in piece {
-            self.take_byte(alloc, *byte, files, sink, steps)?;
+            self.take_byte(alloc, *byte, files, sink, notes, steps)?;
         }
         Ok(())
     }
 
     /// Answers a last line that no LF ends.
-    pub(crate) fn last_line<F: Files, W: Sink, L: Ledger>(
+    pub(crate) fn last_line<F: Files, W: Sink, N: Sink, L: Ledger>(
         &mut self,
         alloc: Global,
         files: &mut F,
         sink: &mut W,
+        notes: &mut N,
         steps: &mut Steps<L>,
     ) -> Result<(), LineStop>
         ensures closes { Closes
-            (shown_beside self.old.refusals F.Files W.Sink files.old sink.old steps.old)
-            (shown_beside self.new.refusals F.Files W.Sink files.new sink.new steps.new)
-            self.old (last_result result self.new.refused_lines) }
+            (beside self.old.refusals F.Files W.Sink N.Sink files.old sink.old notes.old steps.old)
+            (beside self.new.refusals F.Files W.Sink N.Sink files.new sink.new notes.new steps.new)
+            self.old (last_result result self.new.counts) }
         ensures standing { OnOk result (ClosesAt
-            (shown_beside self.old.refusals F.Files W.Sink files.old sink.old steps.old)
-            self.old self.new.script self.new.refusals self.new.refused_lines) }
+            (beside self.old.refusals F.Files W.Sink N.Sink files.old sink.old notes.old steps.old)
+            self.old self.new.script self.new.refusals self.new.counts) }
         ensures mode { is_some self.new.refusals ≡ is_some self.old.refusals }
         ensures same { F.told files.new ≡ F.told files.old }
         ensures kept { result ≢ Err LineStop.File → F.failed files.new ≡ F.failed files.old }
@@ -193,7 +197,7 @@ impl Reading {
             sink,
             steps,
         )?;
-        self.refused_lines.note(wrong)?;
+        self.counts.note(alloc, notes, wrong)?;
         Ok(())
     }
 }

@@ -3,7 +3,7 @@ ghost use Rattle.std.specs.Prelude.{◌≡◌};
 ghost use Rattle.script_run.specs.declared.stop.Stop.TheVariants.{Memory};
 ghost use Rattle.script_run.specs.Stops.{stop_of, stop_of_file};
 
-use crate::refused_lines::RefusedLines;
+use crate::line_counts::LineCounts;
 use outside::FileAnswer;
 use script_steps::LineStop;
 use std::alloc::AllocError;
@@ -28,9 +28,9 @@ pub enum Stop {
 pub struct Stopped {
     /// Why it stopped.
     pub stop: Stop,
-    /// Which of the lines were refused that were answered before: of a stop at a line, those before it. Where memory ran out it
-    /// may be any of them.
-    pub refused_lines: RefusedLines,
+    /// How many lines were answered before, and refused: of a stop at a line, those before it. Where memory ran out it may be
+    /// any of them.
+    pub counts: LineCounts,
 }
 
 impl From<LineStop> for Stop {

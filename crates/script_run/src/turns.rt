@@ -5,15 +5,16 @@ ghost use Rattle.std.specs.Result.{ForErr};
 ghost use Rattle.outside.specs.Causes.{Caused, HasCause};
 ghost use Rattle.outside.specs.Told.{ReadConsumes};
 ghost use Rattle.script_run.specs.Limits.{most_script, most_turn};
-ghost use Rattle.script_run.specs.RunClauses.{RunMeets, EndsUnwritten};
+ghost use Rattle.script_run.specs.Notes.{notes_shown, run_shown, with_notes};
+ghost use Rattle.script_run.specs.RunClauses.{RunMeets, EndsUnwritten, EndsWritten};
 ghost use Rattle.script_run.specs.private.RunClauses.{KeepsRefusals, EndsAt};
-ghost use Rattle.script_steps.specs.Shown.{shown, shown_by};
+ghost use Rattle.script_steps.specs.Shown.{shown};
 ghost use Rattle.script_run.specs.RunClauses.{by_stop, run_result};
-ghost use Rattle.script_run.specs.private.RunClauses.{shown_beside};
+ghost use Rattle.script_run.specs.private.RunClauses.{beside};
 ghost use Rattle.script_run.specs.private.RunViews.{IsAtStart, TakesAll, read_result, stopped_at};
 
+use crate::line_counts::LineCounts;
 use crate::reading::Reading;
-use crate::refused_lines::RefusedLines;
 use crate::stop::{Stop, Stopped};
 use crate::{MOST_SCRIPT, MOST_TURN};
 use outside::{Failed, Files, Sink, Source, SureSink};
@@ -48,25 +49,26 @@ fn turn_buffer(alloc: Global, size: usize) -> Result<Vec<u8>, AllocError>
 }
 
 /// Takes the script to its end, and answers each line that ends in a turn's bytes before it takes the next turn's.
-fn take_turns<F: Files, R: Source, W: Sink, L: Ledger>(
+fn take_turns<F: Files, R: Source, W: Sink, N: Sink, L: Ledger>(
     alloc: Global,
     buf: &mut [u8],
     reading: &mut Reading,
     files: &mut F,
     source: &mut R,
     sink: &mut W,
+    notes: &mut N,
     steps: &mut Steps<L>,
 ) -> Result<(), Stop>
     requires room { length buf.old ≡ most_turn }
     requires start { IsAtStart reading.old }
     ensures ok { OnOk result (TakesAll
-        (shown_beside reading.old.refusals F.Files W.Sink files.old sink.old steps.old)
-        (shown_beside reading.new.refusals F.Files W.Sink files.new sink.new steps.new)
+        (beside reading.old.refusals F.Files W.Sink N.Sink files.old sink.old notes.old steps.old)
+        (beside reading.new.refusals F.Files W.Sink N.Sink files.new sink.new notes.new steps.new)
         (R.left source.old) (R.left source.new) reading.new) }
     ensures err { ForErr result (λ stop. ForSome (R.left source.old) (λ script. RunMeets
-        (shown_beside reading.old.refusals F.Files W.Sink files.old sink.old steps.old)
-        (shown_beside reading.new.refusals F.Files W.Sink files.new sink.new steps.new)
-        script (R.left source.new) (stopped_at stop reading.new.refused_lines))) }
+        (beside reading.old.refusals F.Files W.Sink N.Sink files.old sink.old notes.old steps.old)
+        (beside reading.new.refusals F.Files W.Sink N.Sink files.new sink.new notes.new steps.new)
+        script (R.left source.new) (stopped_at stop reading.new.counts))) }
     ensures mode { is_some reading.new.refusals ≡ is_some reading.old.refusals }
     ensures same { F.told files.new ≡ F.told files.old }
     ensures kept { result ≢ Err Stop.File → F.failed files.new ≡ F.failed files.old }
@@ -87,27 +89,28 @@ fn take_turns<F: Files, R: Source, W: Sink, L: Ledger>(
         if taken > MOST_SCRIPT {
             return Err(Stop::Long);
         }
-        reading.feed(alloc, &buf[..count], files, sink, steps)?;
+        reading.feed(alloc, &buf[..count], files, sink, notes, steps)?;
     }
 }
 
 /// Reads a script from its start to its end, and answers its lines. What they have made is in the reading, also where it stops.
-fn read_to_end<F: Files, R: Source, W: Sink, L: Ledger>(
+fn read_to_end<F: Files, R: Source, W: Sink, N: Sink, L: Ledger>(
     alloc: Global,
     reading: &mut Reading,
     files: &mut F,
     source: &mut R,
     sink: &mut W,
+    notes: &mut N,
     steps: &mut Steps<L>,
 ) -> Result<(), Stop>
     requires start { IsAtStart reading.old }
     ensures script { ForSome (R.left source.old) (λ script. RunMeets
-        (shown_beside reading.old.refusals F.Files W.Sink files.old sink.old steps.old)
-        (shown_beside reading.new.refusals F.Files W.Sink files.new sink.new steps.new)
-        script (R.left source.new) (read_result result reading.new.refused_lines)) }
+        (beside reading.old.refusals F.Files W.Sink N.Sink files.old sink.old notes.old steps.old)
+        (beside reading.new.refusals F.Files W.Sink N.Sink files.new sink.new notes.new steps.new)
+        script (R.left source.new) (read_result result reading.new.counts)) }
     ensures standing { OnOk result (ForSome (R.left source.old) (λ script.
         ForSome (F.told files.old) (λ files.
-        EndsAt files script reading.new.script reading.new.refusals reading.new.refused_lines))) }
+        EndsAt files script reading.new.script reading.new.refusals reading.new.counts))) }
     ensures mode { is_some reading.new.refusals ≡ is_some reading.old.refusals }
     ensures same { F.told files.new ≡ F.told files.old }
     ensures kept { result ≢ Err Stop.File → F.failed files.new ≡ F.failed files.old }
@@ -116,16 +119,16 @@ fn read_to_end<F: Files, R: Source, W: Sink, L: Ledger>(
     ensures write { Caused Stop.Write (W.faults sink.old) (W.faults sink.new) result }
 {
     let mut buf = turn_buffer(alloc, MOST_TURN)?;
-    take_turns(alloc, &mut buf, reading, files, source, sink, steps)?;
-    reading.last_line(alloc, files, sink, steps)?;
+    take_turns(alloc, &mut buf, reading, files, source, sink, notes, steps)?;
+    reading.last_line(alloc, files, sink, notes, steps)?;
     Ok(())
 }
 
 /// What a script has made that was read and answered to its end.
 #[derive(Drop)]
 pub struct Ended {
-    /// Which lines were refused.
-    pub refused_lines: RefusedLines,
+    /// How many lines were answered and refused.
+    pub counts: LineCounts,
     /// What its lines have made.
     pub script: Script,
 }
@@ -141,22 +144,23 @@ pub(crate) struct EndedWithRefusals {
 
 /// Runs a script as [`run`] does, and gives what its lines have made. Where refusals are to be kept the answers that are
 /// refusals are put to them, and no answer is written.
-pub(crate) fn run_to_end<F: Files, R: Source, W: Sink, L: Ledger>(
+pub(crate) fn run_to_end<F: Files, R: Source, W: Sink, N: Sink, L: Ledger>(
     alloc: Global,
     refusals: Option<Vec<u8>>,
     files: &mut F,
     source: &mut R,
     sink: &mut W,
+    notes: &mut N,
     steps: &mut Steps<L>,
 ) -> Result<EndedWithRefusals, Stopped>
     requires { KeepsRefusals refusals [] }
     ensures script { ForSome (R.left source.old) (λ script. RunMeets
-        (shown_beside refusals F.Files W.Sink files.old sink.old steps.old)
-        (shown_beside refusals F.Files W.Sink files.new sink.new steps.new)
-        script (R.left source.new) (run_result (λ made. made.ended.refused_lines) result)) }
+        (beside refusals F.Files W.Sink N.Sink files.old sink.old notes.old steps.old)
+        (beside refusals F.Files W.Sink N.Sink files.new sink.new notes.new steps.new)
+        script (R.left source.new) (run_result (λ made. made.ended.counts) result)) }
     ensures standing { IfOk result (λ made. ForSome (R.left source.old) (λ script.
         ForSome (F.told files.old) (λ files.
-        EndsAt files script made.ended.script made.refusals made.ended.refused_lines))) }
+        EndsAt files script made.ended.script made.refusals made.ended.counts))) }
     ensures mode { IfOk result (λ made. is_some made.refusals ≡ is_some refusals) }
     ensures same { F.told files.new ≡ F.told files.old }
     ensures kept { by_stop result ≢ Err Stop.File → F.failed files.new ≡ F.failed files.old }
@@ -165,53 +169,56 @@ pub(crate) fn run_to_end<F: Files, R: Source, W: Sink, L: Ledger>(
     ensures write { Caused Stop.Write (W.faults sink.old) (W.faults sink.new) (by_stop result) }
 {
     let mut reading = Reading::new(alloc, refusals);
-    match read_to_end(alloc, &mut reading, files, source, sink, steps) {
+    match read_to_end(alloc, &mut reading, files, source, sink, notes, steps) {
         Ok(()) => Ok(EndedWithRefusals {
             ended: Ended {
-                refused_lines: reading.refused_lines,
+                counts: reading.counts,
                 script: reading.script,
             },
             refusals: reading.refusals,
         }),
         Err(stop) => Err(Stopped {
             stop,
-            refused_lines: reading.refused_lines,
+            counts: reading.counts,
         }),
     }
 }
 
-/// Runs a script: takes it from the source turn by turn, and answers each line before bytes past its turn are taken. It is told
-/// which lines were refused, also where it stops. The counter rises by the steps of the answers: of accepted edits, `try` and
-/// `open`.
+/// Runs a script: takes it from the source turn by turn, and answers each line before bytes past its turn are taken. The reason
+/// of each refused line is put to the notes behind its answer; that a call of theirs may fail changes nothing. The counter
+/// rises by the steps of the answers: of accepted edits, `try` and `open`.
 ///
 /// A script has at most [`MOST_SCRIPT`] bytes. A line of more than [`MOST_LINE`](crate::MOST_LINE) bytes is
 /// answered once, and of its bytes no more than that many and one are kept.
-pub fn run<F: Files, R: Source, W: Sink, L: Ledger>(
+pub fn run<F: Files, R: Source, W: Sink, N: Sink, L: Ledger>(
     alloc: Global,
     files: &mut F,
     source: &mut R,
     sink: &mut W,
+    notes: &mut N,
     steps: &mut Steps<L>,
-) -> Result<RefusedLines, Stopped>
+) -> Result<Ended, Stopped>
     ensures script { ForSome (R.left source.old) (λ script. RunMeets
-        (shown_by F.Files W.Sink files.old sink.old steps.old)
-        (shown_by F.Files W.Sink files.new sink.new steps.new)
-        script (R.left source.new) result) }
+        (run_shown F.Files W.Sink N.Sink files.old sink.old notes.old steps.old)
+        (run_shown F.Files W.Sink N.Sink files.new sink.new notes.new steps.new)
+        script (R.left source.new) (run_result (λ ended. ended.counts) result)) }
+    ensures standing { IfOk result (λ ended. ForSome (R.left source.old) (λ script.
+        ForSome (F.told files.old) (λ files. EndsWritten files script ended))) }
     ensures same { F.told files.new ≡ F.told files.old }
     ensures kept { by_stop result ≢ Err Stop.File → F.failed files.new ≡ F.failed files.old }
     ensures file { Caused Stop.File (F.faults files.old) (F.faults files.new) (by_stop result) }
     ensures read { Caused Stop.Read (R.faults source.old) (R.faults source.new) (by_stop result) }
     ensures write { Caused Stop.Write (W.faults sink.old) (W.faults sink.new) (by_stop result) }
 {
-    let made = run_to_end(alloc, None, files, source, sink, steps)?;
-    Ok(made.ended.refused_lines)
+    let made = run_to_end(alloc, None, files, source, sink, notes, steps)?;
+    Ok(made.ended)
 }
 
 /// What a script has made none of whose answers was written.
 #[derive(Drop)]
 pub struct Unwritten {
-    /// Which lines were refused.
-    pub refused_lines: RefusedLines,
+    /// How many lines were answered and refused.
+    pub counts: LineCounts,
     /// The answers that are refusals, one after another.
     pub refusals: Vec<u8>,
     /// What its lines have made.
@@ -220,16 +227,19 @@ pub struct Unwritten {
 
 /// Runs a script as [`run`] does, but writes none of its answers, and gives what its lines have made, with the answers that are
 /// refusals.
-pub fn run_unwritten<F: Files, R: Source, L: Ledger>(
+pub fn run_unwritten<F: Files, R: Source, N: Sink, L: Ledger>(
     alloc: Global,
     files: &mut F,
     source: &mut R,
+    notes: &mut N,
     steps: &mut Steps<L>,
 ) -> Result<Unwritten, Stopped>
     ensures script { ForSome (R.left source.old) (λ script. RunMeets
-        (shown (F.told files.old) (F.failed files.old) None steps.old)
-        (shown (F.told files.new) (F.failed files.new) None steps.new)
-        script (R.left source.new) (run_result (λ ended. ended.refused_lines) result)) }
+        (with_notes (shown (F.told files.old) (F.failed files.old) None steps.old)
+        (notes_shown N.Sink notes.old))
+        (with_notes (shown (F.told files.new) (F.failed files.new) None steps.new)
+        (notes_shown N.Sink notes.new))
+        script (R.left source.new) (run_result (λ ended. ended.counts) result)) }
     ensures standing { IfOk result (λ ended. ForSome (R.left source.old) (λ script.
         ForSome (F.told files.old) (λ files. EndsUnwritten files script ended))) }
     ensures same { F.told files.new ≡ F.told files.old }
@@ -241,11 +251,11 @@ pub fn run_unwritten<F: Files, R: Source, L: Ledger>(
     let mut sink = SureSink::new();
     let kept = Some(Vec::new(alloc));
     let EndedWithRefusals { ended, refusals } = run_to_end(
-        alloc, kept, files, source, &mut sink, steps,
+        alloc, kept, files, source, &mut sink, notes, steps,
     )?;
     match refusals {
         Some(refusals) => Ok(Unwritten {
-            refused_lines: ended.refused_lines,
+            counts: ended.counts,
             refusals,
             script: ended.script,
         }),

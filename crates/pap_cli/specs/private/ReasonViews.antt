@@ -13,7 +13,7 @@ use Rattle.plain_words.specs.Refusals.{BeginsAtRefusal, TellsPlan}
 use Rattle.plain_words.specs.States.{SaysState}
 use Rattle.pap_cli.specs.declared.words.Command.{Command}
 use Rattle.pap_cli.specs.declared.words.Command.TheVariants.{Check, Once}
-use Rattle.pap_cli.specs.Notes.{NotesShown, AreNoted}
+use Rattle.script_run.specs.Notes.{NotesShown, AreNoted}
 use Rattle.pap_cli.specs.Reasons.{IsReasonLine, TellsOnce}
 
 -- the words of a command's reason on two files

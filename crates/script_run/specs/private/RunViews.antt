@@ -13,13 +13,14 @@ use Rattle.script_run.specs.Limits.{most_line, most_script}
 use Rattle.script_run.specs.Stops.{stop_of}
 use Rattle.script_run.specs.Transcripts.{Session, ended_lines, refusal_of}
 use Rattle.script_steps.specs.Shown.{OutsideShown}
+use Rattle.script_run.specs.Notes.{IsToldOf, RunShown}
 use Rattle.script_run.specs.RunClauses.{RunResult, RunLeaves}
 use Rattle.script_run.specs.private.RunClauses.{EndsAt, KeepsRefusals}
 use Rattle.script_run.specs.declared.stop.Stop.{Stop}
 use Rattle.script_run.specs.declared.reading.Reading.{Reading}
-use Rattle.script_run.specs.RefusedLines.{IsToldOf, tells_one}
-use Rattle.script_run.specs.private.RefusedLines.{noted}
-use Rattle.script_run.specs.declared.refused_lines.RefusedLines.{RefusedLines}
+use Rattle.script_run.specs.LineCounts.{AreCounted, counts_one}
+use Rattle.script_run.specs.private.LineCounts.{noted}
+use Rattle.script_run.specs.declared.line_counts.LineCounts.{LineCounts}
 
 -- ---- the lines so far, as running totals
 
@@ -74,7 +75,7 @@ pub record Holds (reading : Reading) (line : List ℕ) : Type 0 where
 
 -- the same lines were answered
 pub record IsSameSoFar (was is : Reading) : Type 0 where
-  pub refused_lines : is.refused_lines ≡ was.refused_lines
+  pub counts : is.counts ≡ was.counts
   pub script : is.script ≡ was.script
   pub refusals : is.refusals ≡ was.refusals
 
@@ -92,7 +93,7 @@ pub record IsDelivered
   pub kept : Keeps was is answered.answer
 
 -- of these bytes each line whose LF is among them was answered, and nothing else was written or kept
-pub record Stands (before now : OutsideShown) (bytes : List ℕ) (reading : Reading) : Type 0 where
+pub record Stands (before now : RunShown) (bytes : List ℕ) (reading : Reading) : Type 0 where
   pub out : List ℕ
   pub refusals : List ℕ
   pub lines : ℕ
@@ -102,11 +103,12 @@ pub record Stands (before now : OutsideShown) (bytes : List ℕ) (reading : Read
   pub counted : before.steps ≤ now.steps
   pub held : Holds reading (open_line bytes)
   pub kept : KeepsRefusals reading.refusals refusals
-  pub told : IsToldOf lines refused_lines reading.refused_lines
+  pub told : IsToldOf lines refused_lines
+      (record { counts = reading.counts; before = before.notes; after = now.notes })
   pub answered : ForSome before.files (λ files. Follow files empty_session (ended_lines bytes)
       (record {
         text = out;
-        refused = tells_one reading.refused_lines;
+        refused = counts_one reading.counts;
         refusals = refusals;
         lines = lines;
         refused_lines = refused_lines;
@@ -115,41 +117,41 @@ pub record Stands (before now : OutsideShown) (bytes : List ℕ) (reading : Read
       }))
 
 -- wherever the run stood over some bytes, it stands over these more
-pub record GoesOn (old new : OutsideShown) (was is : Reading) (more : List ℕ) : Type 0 where
-  pub on : (before : OutsideShown) (bytes : List ℕ) → Stands before old bytes was →
+pub record GoesOn (old new : RunShown) (was is : Reading) (more : List ℕ) : Type 0 where
+  pub on : (before : RunShown) (bytes : List ℕ) → Stands before old bytes was →
       Stands before new (bytes ++ more) is
 
--- the run stopped, and this is told
-abbrev pub stopped_at : Stop → RefusedLines → RunResult
-stopped_at stop told = Err (record { stop = stop; refused_lines = told })
+-- the run stopped behind so many lines
+abbrev pub stopped_at : Stop → LineCounts → RunResult
+stopped_at stop counts = Err (record { stop = stop; counts = counts })
 
 -- wherever the run stood over some bytes, what a stop within these more leaves, whatever is left of the script
-pub record Breaks (old new : OutsideShown) (was : Reading) (told : RefusedLines) (more : List ℕ)
+pub record Breaks (old new : RunShown) (was : Reading) (counts : LineCounts) (more : List ℕ)
     (stop : LineStop) : Type 0 where
-  pub on : (before : OutsideShown) (bytes rest : List ℕ) → Stands before old bytes was
+  pub on : (before : RunShown) (bytes rest : List ℕ) → Stands before old bytes was
       → RunLeaves (length more) before new ((bytes ++ more) ++ rest) (bytes ++ more) rest
-      (stopped_at (stop_of stop) told)
+      (stopped_at (stop_of stop) counts)
 
--- what reading to the end comes to, and this is told
-abbrev pub read_result : Result ⊤ Stop → RefusedLines → RunResult
-read_result (Ok _) told = Ok told
-read_result (Err stop) told = stopped_at stop told
+-- what reading to the end comes to, behind so many lines
+abbrev pub read_result : Result ⊤ Stop → LineCounts → RunResult
+read_result (Ok _) counts = Ok counts
+read_result (Err stop) counts = stopped_at stop counts
 
--- the last line's answer, and this is told
-abbrev pub last_result : Result ⊤ LineStop → RefusedLines → RunResult
-last_result (Ok _) told = Ok told
-last_result (Err stop) told = stopped_at (stop_of stop) told
+-- the last line's answer, behind so many lines
+abbrev pub last_result : Result ⊤ LineStop → LineCounts → RunResult
+last_result (Ok _) counts = Ok counts
+last_result (Err stop) counts = stopped_at (stop_of stop) counts
 
 -- wherever the run stood over a whole script, what its end leaves
-pub record Closes (old new : OutsideShown) (was : Reading) (result : RunResult) : Type 0 where
-  pub on : (before : OutsideShown) (script : List ℕ) → Stands before old script was
+pub record Closes (old new : RunShown) (was : Reading) (result : RunResult) : Type 0 where
+  pub on : (before : RunShown) (script : List ℕ) → Stands before old script was
       → RunLeaves 0 before new script script [] result
 
 -- wherever the run stood over a whole script, what its lines have left
-pub record ClosesAt (old : OutsideShown) (was : Reading) (standing : Standing)
-    (kept : Option (Vec ℕ Global)) (told : RefusedLines) : Type 0 where
-  pub on : (before : OutsideShown) (script : List ℕ) → Stands before old script was
-      → ForSome before.files (λ files. EndsAt files script standing kept told)
+pub record ClosesAt (old : RunShown) (was : Reading) (standing : Standing)
+    (kept : Option (Vec ℕ Global)) (counts : LineCounts) : Type 0 where
+  pub on : (before : RunShown) (script : List ℕ) → Stands before old script was
+      → ForSome before.files (λ files. EndsAt files script standing kept counts)
 
 -- nothing of a script was read yet
 pub record IsAtStart (reading : Reading) : Type 0 where
@@ -157,10 +159,10 @@ pub record IsAtStart (reading : Reading) : Type 0 where
   pub long : reading.long ≡ false
   pub script : reading.script ≡ first_standing
   pub refusals : KeepsRefusals reading.refusals []
-  pub refused_lines : IsToldOf 0 [] reading.refused_lines
+  pub counts : AreCounted 0 [] reading.counts
 
 -- of a run over a source, at its end
-pub record TakesAll (before now : OutsideShown) (left left_now : Option (List ℕ))
+pub record TakesAll (before now : RunShown) (left left_now : Option (List ℕ))
     (reading : Reading) : Type 0 where
   pub bytes : List ℕ
   pub consumed : Consumes left left_now bytes

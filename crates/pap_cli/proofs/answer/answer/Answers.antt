@@ -2,7 +2,7 @@ use Rattle.std.proofs.Common.{◌∙◌, sym, ap, subst}
 use Rattle.std.specs.Prelude.{Ok}
 use Rattle.script_steps.specs.Shown.{shown}
 use Rattle.pap_cli.specs.FileClauses.{LeavesOnFiles}
-use Rattle.pap_cli.specs.Notes.{notes_shown}
+use Rattle.script_run.specs.Notes.{notes_shown}
 use Rattle.pap_cli.specs.Statuses.{status_of}
 use Rattle.pap_cli.specs.private.AnswerViews.{answers_of}
 use Rattle.pap_cli.proofs.ReasonLemmas.{nothing_put, ok_same, put_on}

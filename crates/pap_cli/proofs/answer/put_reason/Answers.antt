@@ -1,6 +1,6 @@
 use Rattle.std.proofs.Common.{subst}
-use Rattle.pap_cli.specs.Notes.{AreNoted, notes_shown}
-use Rattle.pap_cli.proofs.ReasonLemmas.{noted}
+use Rattle.script_run.specs.Notes.{AreNoted, notes_shown}
+use Rattle.script_run.proofs.Laws.{noted_by}
 use Rattle.pap_cli.proofs.answer.put_reason.Goals as goal
 
 pub returns-in-Some-clause-put : goal.returns-in-Some-clause-put
@@ -9,4 +9,4 @@ returns-in-Some-clause-put g c =
     let after = notes_shown g.N.Sink c.put_all.new.sink in
     rw c.in-Some.is
     (subst (λ t. AreNoted before after t) c.as_bytes.ensures.value
-    (noted c.put_all.result before after c.as_bytes.result.now c.put_all.ensures.ok c.put_all.ensures.cause))
+    (noted_by c.put_all.result before after c.as_bytes.result.now c.put_all.ensures.ok c.put_all.ensures.cause))

@@ -1,21 +1,19 @@
 use Rattle.std.proofs.Common.{◌∙◌, ap, refl, subst, sym}
-use Rattle.script_run.specs.declared.stop.Stop.TheVariants as stops
 use Rattle.pap_cli.specs.Words.{texts, run, sample, save}
 use Rattle.pap_cli.specs.private.WordViews.{form_on_files}
 use Rattle.pap_cli.specs.Outside.{objects, outside_of, shown_of}
 use Rattle.pap_cli.specs.CallClauses.{Carries}
-use Rattle.pap_cli.specs.Notes.{HasReason, notes_shown}
+use Rattle.script_run.specs.Notes.{notes_shown}
+use Rattle.pap_cli.specs.Notes.{HasReason, telling}
 use Rattle.pap_cli.specs.ScriptWords.{AsksOfFiles}
-use Rattle.pap_cli.specs.ScriptClauses.{LeavesOnScript}
 use Rattle.pap_cli.specs.Statuses.{status_of}
 use Rattle.pap_cli.proofs.CallLemmas.{caused_by, files_no_sample, tells_good, touches_own}
-use Rattle.script_run.specs.RunClauses.{ended_of}
 use Rattle.pap_cli.proofs.WordLemmas.{is_check, one_form}
-use Rattle.pap_cli.proofs.ScriptLemmas.{ended_by, headline_script, script_kept}
+use Rattle.pap_cli.proofs.ScriptLemmas.{headline_script}
 use Rattle.pap_cli.proofs.SampleLemmas.{headline_sample, reads_no_file, samples_no_script}
 use Rattle.pap_cli.proofs.SaveLemmas.{headline_save}
 use Rattle.pap_cli.proofs.LeavesLemmas.{leaves_form, carries_none, headline_form, reads_no_script}
-use Rattle.pap_cli.proofs.ReasonLemmas.{asks_of_files, not_refused, notes_kept, reason_of_form, refused_ok}
+use Rattle.pap_cli.proofs.ReasonLemmas.{asks_of_files, not_refused, notes_kept, notes_told, reason_of_form, refused_ok}
 use Rattle.pap_cli.proofs.call.papcalc_told.Goals as goal
 
 -- ---- all that the call meets, by what the words ask for
@@ -30,7 +28,7 @@ returns-in-Ok-Some-Files-clause-meets g c =
     let before = outside_of g.F.Files g.R.Source g.W.Sink first in
     let after = outside_of g.F.Files g.R.Source g.W.Sink last in
     let status = c.status.result in
-    let lines = c.args.refused_lines.now in
+    let lines = telling g.N.Sink c.args.counts.now c.args.notes.now c.answer.new.notes in
     let caused = caused_by before after status c.answer.result c.status.ensures
     (λ e. c.answer.ensures.file.rose e)
     (λ e. absurd (reads_no_script {before = shown_of before} {after = shown_of after} c.answer.ensures.leaves
@@ -60,32 +58,24 @@ returns-in-Ok-Some-Run-clause-meets g c =
     let words = texts c.args.words.now in
     let own = rw c.in-Ok-Some-Run.field-0-0-is at (rw c.in-Ok-Some-Run.field-0-is at c.in-Ok-Some-Run.ensures) in
     let first = objects c.args.files.now c.args.source.now c.args.sink.now c.args.steps.now in
-    let last = objects c.run.new.files c.run.new.source c.run.new.sink c.run.new.steps in
+    let last = objects c.carry_out.new.files c.carry_out.new.source c.carry_out.new.sink c.carry_out.new.steps in
     let before = outside_of g.F.Files g.R.Source g.W.Sink first in
     let after = outside_of g.F.Files g.R.Source g.W.Sink last in
     let status = c.status-in-Ok-Some-Run.result in
-    let lines = c.tell.new.refused_lines in
-    let is = c.status-in-Ok-Some-Run.ensures ∙ ap (λ r. status_of r) c.tell.ensures.ended in
-    let caused = caused_by before after status (ended_of c.run.result) is
-    (λ e. c.run.ensures.file.rose (ended_by c.run.result stops.File e))
-    (λ e. c.run.ensures.read.rose (ended_by c.run.result stops.Read e))
-    (λ e. c.run.ensures.write.rose (ended_by c.run.result stops.Write e)) in
-    let leaves : LeavesOnScript before after lines status = record {
-      result = c.run.result;
-      ended = is;
-      told_is = c.tell.ensures.told;
-      meets = c.run.ensures.script;
-      kept = script_kept c.run.result status before.failed after.failed is c.run.ensures.kept;
-    } in
+    let lines = telling g.N.Sink c.carry_out.new.counts c.args.notes.now c.carry_out.new.notes in
+    let is = c.status-in-Ok-Some-Run.ensures in
+    let caused = caused_by before after status c.carry_out.result is
+    (λ e. c.carry_out.ensures.file.rose e) (λ e. c.carry_out.ensures.read.rose e) (λ e. c.carry_out.ensures.write.rose e) in
     record {
-      bad_words = tells_good words run own status (ended_of c.run.result) is;
+      bad_words = tells_good words run own status c.carry_out.result is;
       touches = touches_own words run own first last (λ none. absurd (none tt)) (λ employees e. cc) (λ plan limits e. cc);
-      files_same = c.run.ensures.same;
+      files_same = c.carry_out.ensures.same;
       caused = caused;
       carries = λ form has.
+          let all = rw (← is) at c.carry_out.ensures.leaves in
           subst (λ f. Carries f before after lines status) (one_form words run form own has) (record {
-            leaves = leaves;
-            headline = headline_script before after lines status leaves caused.file caused.read caused.write;
+            leaves = all;
+            headline = headline_script before after lines status all caused.file caused.read caused.write;
           });
     }
 
@@ -99,7 +89,7 @@ returns-in-Ok-Some-Sample-clause-meets g c =
     let before = outside_of g.F.Files g.R.Source g.W.Sink first in
     let after = outside_of g.F.Files g.R.Source g.W.Sink last in
     let status = c.status-in-Ok-Some-Sample.result in
-    let lines = c.args.refused_lines.now in
+    let lines = telling g.N.Sink c.args.counts.now c.args.notes.now c.args.notes.now in
     let is = c.status-in-Ok-Some-Sample.ensures in
     let caused = caused_by before after status c.sample.result is
     (λ e. absurd (reads_no_file c.sample.ensures.leaves (ap (λ r. status_of r) e)))
@@ -128,7 +118,7 @@ returns-in-Ok-Some-Save-clause-meets g c =
     let before = outside_of g.F.Files g.R.Source g.W.Sink first in
     let after = outside_of g.F.Files g.R.Source g.W.Sink last in
     let status = c.status-in-Ok-Some-Save.result in
-    let lines = c.save.new.refused_lines in
+    let lines = telling g.N.Sink c.save.new.counts c.args.notes.now c.save.new.notes in
     let is = c.status-in-Ok-Some-Save.ensures in
     let caused = caused_by before after status c.save.result is
     (λ e. c.save.ensures.file.rose e) (λ e. c.save.ensures.read.rose e) (λ e. c.save.ensures.write.rose e) in
@@ -173,10 +163,11 @@ returns-in-Err-clause-meets g c = record {
   files_same = refl;
   caused = record { file = λ e. cc; read = λ e. cc; write = λ e. cc };
   carries = λ form has. carries_none form (outside_of g.F.Files g.R.Source g.W.Sink
-      (objects c.args.files.now c.args.source.now c.args.sink.now c.args.steps.now)) c.args.refused_lines.now;
+      (objects c.args.files.now c.args.source.now c.args.sink.now c.args.steps.now))
+      (telling g.N.Sink c.args.counts.now c.args.notes.now c.args.notes.now);
 }
 
--- ---- of a script it is told which lines were refused, of other words nothing
+-- ---- of a script it is told how many lines were refused, of other words nothing
 
 pub returns-in-Ok-Some-Run-clause-untold : goal.returns-in-Ok-Some-Run-clause-untold
 returns-in-Ok-Some-Run-clause-untold g c = λ none.
@@ -207,15 +198,16 @@ returns-in-Ok-Some-Files-clause-notes g c =
           subst (λ f. HasReason f told before after) (one_form words mine form own has)
           (reason_of_form command plan limits told before after
           (c.answer.ensures.reason (refused_ok c.answer.result (sym c.status.ensures ∙ refused))));
-      silent = λ other. c.answer.ensures.silent (λ e. other (c.status.ensures ∙ ap (λ r. status_of r) e));
-      other = λ form has none.
+      silent = λ none other. c.answer.ensures.silent (λ e. other (c.status.ensures ∙ ap (λ r. status_of r) e));
+      other = λ form has none unread.
           absurd (none (subst AsksOfFiles (one_form words mine form own has) (asks_of_files command plan limits)));
     }
 
 pub returns-in-Ok-Some-Run-clause-notes : goal.returns-in-Ok-Some-Run-clause-notes
 returns-in-Ok-Some-Run-clause-notes g c =
     let own = rw c.in-Ok-Some-Run.field-0-0-is at (rw c.in-Ok-Some-Run.field-0-is at c.in-Ok-Some-Run.ensures) in
-    notes_kept g.N.Sink (texts c.args.words.now) (g.F.Files.told c.args.files.now) c.args.notes.now c.status-in-Ok-Some-Run.result run own (λ asked. asked)
+    notes_told g.N.Sink (texts c.args.words.now) (g.F.Files.told c.args.files.now) c.args.notes.now c.carry_out.new.notes
+    c.status-in-Ok-Some-Run.result run own (λ asked. asked) tt
 
 pub returns-in-Ok-Some-Sample-clause-notes : goal.returns-in-Ok-Some-Sample-clause-notes
 returns-in-Ok-Some-Sample-clause-notes g c =
@@ -225,13 +217,14 @@ returns-in-Ok-Some-Sample-clause-notes g c =
 pub returns-in-Ok-Some-Save-clause-notes : goal.returns-in-Ok-Some-Save-clause-notes
 returns-in-Ok-Some-Save-clause-notes g c =
     let own = rw c.in-Ok-Some-Save.field-0-0-is at (rw c.in-Ok-Some-Save.field-0-is at c.in-Ok-Some-Save.ensures) in
-    notes_kept g.N.Sink (texts c.args.words.now) (g.F.Files.told c.args.files.now) c.args.notes.now c.status-in-Ok-Some-Save.result save own (λ asked. asked)
+    notes_told g.N.Sink (texts c.args.words.now) (g.F.Files.told c.args.files.now) c.args.notes.now c.save.new.notes
+    c.status-in-Ok-Some-Save.result save own (λ asked. asked) tt
 
 pub returns-in-Ok-None-clause-notes : goal.returns-in-Ok-None-clause-notes
 returns-in-Ok-None-clause-notes g c =
     let bad = rw c.in-Ok-None.field-0-is at c.in-Ok-None.ensures in
-    record { reason = λ form has asked refused. absurd (bad form has); silent = λ other. refl; other = λ form has none. refl }
+    record { reason = λ form has asked refused. absurd (bad form has); silent = λ none other. refl; other = λ form has none unread. refl }
 
 pub returns-in-Err-clause-notes : goal.returns-in-Err-clause-notes
 returns-in-Err-clause-notes g c =
-    record { reason = λ form has asked refused. absurd (not_refused refused); silent = λ other. refl; other = λ form has none. refl }
+    record { reason = λ form has asked refused. absurd (not_refused refused); silent = λ none other. refl; other = λ form has none unread. refl }

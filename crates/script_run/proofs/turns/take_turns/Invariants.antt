@@ -1,15 +1,15 @@
 use Rattle.std.proofs.Common.{◌≡◌, ◌≤◌, ◌-◌, length}
 use Rattle.script_run.specs.Limits.{most_script, most_turn}
 use Rattle.std.specs.Prelude.{is_some}
-use Rattle.script_run.specs.private.RunClauses.{shown_beside}
+use Rattle.script_run.specs.private.RunClauses.{beside}
 use Rattle.script_run.proofs.TurnLaws.{Stood}
 use Rattle.script_run.proofs.turns.take_turns.Given as goal
 
 abbrev pub invariant-turns : goal.invariant-turns
 invariant-turns g l = record {
   stood : Stood
-      (shown_beside l.initial.reading.refusals g.F.Files g.W.Sink l.initial.files l.initial.sink l.initial.steps)
-      (shown_beside l.reading.refusals g.F.Files g.W.Sink l.files l.sink l.steps)
+      (beside l.initial.reading.refusals g.F.Files g.W.Sink g.N.Sink l.initial.files l.initial.sink l.initial.notes l.initial.steps)
+      (beside l.reading.refusals g.F.Files g.W.Sink g.N.Sink l.files l.sink l.notes l.steps)
       (g.R.Source.left l.initial.source) (g.R.Source.left l.source) l.taken l.reading;
   room : length l.buf ≡ most_turn;
   within : l.taken ≤ most_script;

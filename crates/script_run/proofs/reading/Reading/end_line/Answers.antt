@@ -18,7 +18,7 @@ returns-in_err-wrong-clause-err g c = λ stop is.
     broken_same (says_ended reading.line.items c.ended-line.result.now line reading.long holds.front holds.long said)
     c.in_err-wrong.field-0.0
     (record { to = c.deliver.new.script; is = c.in_err-wrong.ensures.broken c.in_err-wrong.field-0.0 refl }))
-    (λ other. refl)
+    (λ other. refl) (λ other. refl)
 
 pub returns-in_err-note-clause-err : goal.returns-in_err-note-clause-err
 returns-in_err-note-clause-err g c = λ stop is.
@@ -29,7 +29,7 @@ returns-in_err-note-clause-err g c = λ stop is.
     let memory : Memory ≡ stop = cc (p.1, p.2) in
     breaks_line memory c.deliver.ensures.same (λ line holds.
     broken_same (says_ended reading.line.items c.ended-line.result.now line reading.long holds.front holds.long said)
-    Memory (answered_lost c.in_ok-wrong.ensures.delivered)) (λ other. absurd (other refl))
+    Memory (answered_lost c.in_ok-wrong.ensures.delivered)) (λ other. absurd (other refl)) (λ other. absurd (other refl))
 
 pub returns-clause-ok : goal.returns-clause-ok
 returns-clause-ok g c =
@@ -40,4 +40,4 @@ returns-clause-ok g c =
     (λ line holds. delivered_same
     (says_ended reading.line.items c.ended-line.result.now line reading.long holds.front holds.long said)
     c.in_ok-wrong.ensures.delivered)
-    (record { front = c.clear.ensures.items; long = refl }) c.in_ok-note.ensures.lines
+    (record { front = c.clear.ensures.items; long = refl }) c.in_ok-note.ensures

@@ -1,14 +1,14 @@
 use Rattle.std.proofs.Common.{◌≡◌, ◌≤◌, take}
 use Rattle.std.specs.Prelude.{is_some}
-use Rattle.script_run.specs.private.RunClauses.{shown_beside}
+use Rattle.script_run.specs.private.RunClauses.{beside}
 use Rattle.script_run.specs.private.RunViews.{GoesOn}
 use Rattle.script_run.proofs.reading.Reading.feed.Given as goal
 
 abbrev pub invariant-loop-byte : goal.invariant-loop-byte
 invariant-loop-byte g l = record {
   on : GoesOn
-      (shown_beside l.initial.self.refusals g.F.Files g.W.Sink l.initial.files l.initial.sink l.initial.steps)
-      (shown_beside l.self.refusals g.F.Files g.W.Sink l.files l.sink l.steps)
+      (beside l.initial.self.refusals g.F.Files g.W.Sink g.N.Sink l.initial.files l.initial.sink l.initial.notes l.initial.steps)
+      (beside l.self.refusals g.F.Files g.W.Sink g.N.Sink l.files l.sink l.notes l.steps)
       l.initial.self l.self (take l.byte-index l.piece);
   mode : is_some l.self.refusals ≡ is_some l.initial.self.refusals;
   same : g.F.Files.told l.files ≡ g.F.Files.told l.initial.files;

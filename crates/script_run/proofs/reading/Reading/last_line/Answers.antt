@@ -3,7 +3,7 @@ use Rattle.std.specs.Prelude.{Err}
 use Rattle.std.proofs.lemmas.Result.{err_from_is_err_and}
 use Rattle.script_steps.specs.declared.stop.LineStop.TheVariants.{Memory}
 use Rattle.script_run.specs.Limits.{most_line}
-use Rattle.script_run.specs.private.RunClauses.{shown_beside}
+use Rattle.script_run.specs.private.RunClauses.{beside}
 use Rattle.script_run.proofs.KeepingLaws.{says_kept, kept_some, kept_none, not_empty, empty}
 use Rattle.script_run.proofs.StepLaws.{answered_lost, delivered_same, broken_same, closes_none, closes_on, closes_broken, closes_at, stays_none, stays_on}
 use Rattle.script_run.proofs.reading.Reading.last_line.Goals as goal
@@ -24,7 +24,7 @@ returns-in_err-wrong-clause-closes g c =
     (closes_broken c.deliver.ensures.same (λ line holds.
     kept_some most_line kept.items line holds.front some) stop
     (λ line holds. broken_same (says_kept kept.items c.deref.result.now line c.deref.ensures.value holds.front) stop
-    (record { to = c.deliver.new.script; is = c.in_err-wrong.ensures.broken stop refl })) (λ other. refl))
+    (record { to = c.deliver.new.script; is = c.in_err-wrong.ensures.broken stop refl })) (λ other. refl) (λ other. refl))
 
 pub returns-clause-closes : goal.returns-clause-closes
 returns-clause-closes g c =
@@ -33,7 +33,7 @@ returns-clause-closes g c =
     closes_on (λ line holds. kept_some most_line kept.items line holds.front some)
     (λ line holds. delivered_same
     (says_kept kept.items c.deref.result.now line c.deref.ensures.value holds.front)
-    c.in_ok-wrong.ensures.delivered) c.in_ok-note.ensures.lines
+    c.in_ok-wrong.ensures.delivered) c.in_ok-note.ensures
 
 pub returns-in_err-note-clause-closes : goal.returns-in_err-note-clause-closes
 returns-in_err-note-clause-closes g c =
@@ -44,7 +44,7 @@ returns-in_err-note-clause-closes g c =
     (closes_broken c.deliver.ensures.same (λ line holds.
     kept_some most_line kept.items line holds.front some) Memory
     (λ line holds. broken_same (says_kept kept.items c.deref.result.now line c.deref.ensures.value holds.front) Memory
-    (answered_lost c.in_ok-wrong.ensures.delivered)) (λ other. absurd (other refl)))
+    (answered_lost c.in_ok-wrong.ensures.delivered)) (λ other. absurd (other refl)) (λ other. absurd (other refl)))
 
 pub returns-then-is_empty-clause-standing : goal.returns-then-is_empty-clause-standing
 returns-then-is_empty-clause-standing g c =
@@ -56,8 +56,9 @@ pub returns-clause-standing : goal.returns-clause-standing
 returns-clause-standing g c =
     let kept = c.args.self.now.line in
     let some = not_empty kept c.is_empty.result c.is_empty.ensures c.if-is_empty.false in
-    stays_on (shown_beside c.deliver.new.kept g.F.Files g.W.Sink c.deliver.new.files c.deliver.new.sink c.deliver.new.steps)
+    stays_on (beside c.deliver.new.kept g.F.Files g.W.Sink g.N.Sink c.deliver.new.files c.deliver.new.sink c.note.new.notes
+    c.deliver.new.steps)
     (λ line holds. kept_some most_line kept.items line holds.front some)
     (λ line holds. delivered_same
     (says_kept kept.items c.deref.result.now line c.deref.ensures.value holds.front)
-    c.in_ok-wrong.ensures.delivered) c.in_ok-note.ensures.lines
+    c.in_ok-wrong.ensures.delivered) c.in_ok-note.ensures
