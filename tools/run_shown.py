@@ -3,8 +3,8 @@
 
 A block that begins with ```console has commands behind `$ ` with what they write on standard output; its commands run one after the
 other, and those of one document in one scratch copy of the examples, with the program as build/papcalc, and papcalc and papledger on the
-path, and AUTHOR as pap_author; where there is none, blocks that call it are left as they are. A block that begins with ```session has lines of one script behind `> ` with their answers. Each is compared byte for byte. With
---write the documents get what comes."""
+path, and AUTHOR as pap_author; where there is none, blocks that call it are left as they are. A block that begins with ```session has
+lines of one script behind `> ` with their answers. Each is compared byte for byte. With --write the documents get what comes."""
 import glob
 import os
 import shutil
