@@ -75,7 +75,7 @@ class Verdict:
 
 
 def edited(edit, folder, before=()):
-    """The texts of the files that an edit changes, by their path in the crate, or why it can't be applied; other edits left those `before`."""
+    """The texts of the files that an edit changes, by their path in the crate, or why it can't be; other edits left those `before`."""
     texts, path, old = dict(before), None, None
     for line in open(edit, encoding="utf-8").read().split("\n"):
         if line.startswith("file: "):
@@ -146,8 +146,24 @@ def copied(folder, to):
     shutil.copytree(folder, to, copy_function=copy, symlinks=True)
 
 
-def body_of(lines, at):
-    """The path below its module of the function in whose body a line stands, if it stands in one."""
+def module_of(path):
+    """The module of a source file, by its path below src/; nothing for the crate's root."""
+    module = path[: -len(".rt")].replace("/", "::")
+    return "" if module in ("lib", "main") else module
+
+
+def home(crate, owner, module):
+    """The module in which a crate declares a type; this one, if it declares none of that name."""
+    root = f"crates/{crate}/src"
+    for path in sorted(glob.glob(f"{root}/**/*.rt", recursive=True)):
+        with open(path, encoding="utf-8") as file:
+            if re.search(rf"^(?:pub(?:\([^)]*\))? )?(?:struct|enum) {owner}\b", file.read(), re.M):
+                return module_of(os.path.relpath(path, root))
+    return module
+
+
+def body_of(lines, at, crate, module):
+    """The path of the function in whose body a line of a module stands, if it stands in one; a method's begins with its type's module."""
     for first in range(at, -1, -1):
         if head := re.match(r"( *)(?:pub(?:\([^)]*\))? )?fn (\w+)", lines[first]):
             break
@@ -159,9 +175,12 @@ def body_of(lines, at):
     if not begins < at < ends:
         return None
     if not indent:
-        return name
+        return f"{module}::{name}".removeprefix("::")
     owner = next((found for i in range(first, -1, -1) if (found := re.match(r"impl(?:<.*?>)? (?:([\w:]+)(?:<.*?>)? for )?(\w+)", lines[i]))), None)
-    return f"{owner.group(2)}{(owner.group(1) or '').split('::')[-1]}::{name}" if owner else None
+    if owner is None:
+        return None
+    kind = f"{owner.group(2)}{(owner.group(1) or '').split('::')[-1]}"
+    return f"{home(crate, owner.group(2), module)}::{kind}::{name}".removeprefix("::")
 
 
 def bodies(texts, crate):
@@ -172,15 +191,15 @@ def bodies(texts, crate):
             return []
         with open(f"crates/{crate}/{path}", encoding="utf-8") as file:
             lines = file.read().split("\n")
-        module = path[len("src/") : -len(".rt")].replace("/", "::")
+        module = module_of(path[len("src/") :])
         for kind, begins, ends, _, _ in difflib.SequenceMatcher(None, lines, text.split("\n"), False).get_opcodes():
             for at in range(begins, ends) if kind != "equal" else ():
                 if lines[at].startswith("use "):
                     continue
-                body = body_of(lines, at)
+                body = body_of(lines, at, crate, module)
                 if body is None:
                     return []
-                found.append(body if module in ("lib", "main") else f"{module}::{body}")
+                found.append(body)
     return sorted(set(found))
 
 
@@ -200,10 +219,10 @@ def users(texts, crate):
     for path in glob.glob(f"crates/{crate}/src/**/*.rt", recursive=True) if names else ():
         with open(path, encoding="utf-8") as file:
             lines = file.read().split("\n")
-        module = path[len(f"crates/{crate}/src/") : -len(".rt")].replace("/", "::")
+        module = module_of(os.path.relpath(path, f"crates/{crate}/src"))
         for at, line in enumerate(lines):
-            if names.intersection(re.findall(r"\w+", line.split("//")[0])) and (body := body_of(lines, at)):
-                paths.add(body if module in ("lib", "main") else f"{module}::{body}")
+            if names.intersection(re.findall(r"\w+", line.split("//")[0])) and (body := body_of(lines, at, crate, module)):
+                paths.add(body)
     return sorted(paths)
 
 
@@ -268,7 +287,7 @@ def tried(crate, edit, below, seed):
         if proved:
             return Verdict("proved", [])
         if not is_readable(output):
-            return Verdict("bad", [line for line in output.split("\n") if "error" in line][:1])
+            return Verdict("bad", [line for line in output.split("\n") if re.search(r"\berror[:\[]", line)][:1])
         of_specs = any(path.startswith("specs/") for path in texts)
         verdict, misfits = judged(told(output), of_specs)
         if not misfits:
