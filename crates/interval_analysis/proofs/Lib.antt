@@ -19,3 +19,4 @@ pub mod StartLemmas
 pub mod StatementLemmas
 pub mod TableLemmas
 pub mod VariableLemmas
+pub mod VisitLemmas

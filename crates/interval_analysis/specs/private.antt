@@ -16,3 +16,4 @@ pub mod StatementViews
 pub mod TableViews
 pub mod TestViews
 pub mod VariableViews
+pub mod VisitViews

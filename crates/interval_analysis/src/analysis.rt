@@ -1,5 +1,5 @@
 //! The analysis of a plan.
-ghost use Rattle.std.specs.Prelude.{◌≡◌, ◌≤◌, IfOk, IfErr, Ok, List, map};
+ghost use Rattle.std.specs.Prelude.{◌≡◌, ◌≤◌, IfOk, IfErr, Ok, OnOk, List, map};
 ghost use Rattle.scaled_decimal.specs.Decimals.{Decimal};
 ghost use Rattle.pap_tree.specs.Flowchart.{flowchart_of};
 ghost use Rattle.pap_types.specs.Meaning.{bound_of, cost_of};
@@ -8,7 +8,10 @@ ghost use Rattle.interval_walk.specs.Admission.{HaveLimits, AreAdmitted};
 ghost use Rattle.interval_walk.specs.Analysis.{analysed};
 ghost use Rattle.interval_walk.specs.Soundness.{RunHolds};
 ghost use Rattle.interval_analysis.specs.Answers.{named_range, IsWalkFaultOrMemory};
+ghost use Rattle.interval_analysis.specs.Surveys.{AreReached, HaveExecuted};
 ghost use Rattle.interval_analysis.specs.private.OutputViews.{OutputAnswer};
+ghost use Rattle.interval_analysis.specs.private.VisitViews.{Marks};
+ghost use Rattle.interval_walk.specs.Visits.{WalkComes};
 
 use crate::bounds::bound_of;
 use crate::expressions::Walk;
@@ -17,8 +20,9 @@ use crate::start::start_ranges;
 use crate::statements::Spot;
 use crate::tables::TabledPlan;
 use crate::variables::Variables;
+use crate::visits::Visits;
 use crate::weights::weights_of;
-use crate::{OutputRange, RangeFault, Verdict};
+use crate::{OutputRange, RangeFault, Survey, Verdict};
 use limits_file::Limits;
 use pap_tree::Name;
 use pap_types::{LONGEST_CHAIN, Typed};
@@ -57,9 +61,44 @@ pub fn analyse(
     // For the proof: the plan is well typed, and its nodes and statements are counted.
     let _well_typed = t.plan();
     let weights = weights_of(alloc, t, order)?;
-    let outputs = walked_outputs(alloc, t, &weights, limits)?;
+    let outputs = walked_outputs(alloc, t, &weights, limits, &mut Visits::unasked())?;
     let bound = bound_of(alloc, t, order)?;
     Ok(Verdict { bound, outputs })
+}
+
+/// Walks a plan as [`analyse`] does, with the same answers, and tells to which statements the walk came. Every statement that a run on
+/// admitted inputs executes is among them, so no such run executes another.
+///
+/// Takes time as `analyse`, with a factor logarithmic in the number of statements at each statement that is walked, and memory
+/// linear in that number beside what `analyse` takes.
+pub fn survey(
+    alloc: Global,
+    t: &Typed,
+    order: &[u32],
+    limits: &Limits,
+) -> Result<Survey, RangeFault>
+    requires ordered { IsOrdered (flowchart_of t.now) order.now }
+    requires limits { HaveLimits (flowchart_of t.now) limits.now }
+    ensures ranges { IfOk result (λ s.
+        analysed (flowchart_of t.now) limits.now ≡ Ok (map named_range s.verdict.outputs.items)) }
+    ensures bound { IfOk result (λ s. s.verdict.bound ≡ bound_of (flowchart_of t.now)) }
+    ensures fault { IfErr result (IsWalkFaultOrMemory (flowchart_of t.now) limits.now) }
+    ensures reached { IfOk result (λ s. AreReached (flowchart_of t.now) limits.now s.reached) }
+    ensures sound { IfOk result (λ s. (inputs : List Decimal)
+        → AreAdmitted (flowchart_of t.now) limits.now inputs
+        → HaveExecuted (flowchart_of t.now) inputs s.reached) }
+{
+    // For the proof: the plan is well typed, and its nodes and statements are counted.
+    let _well_typed = t.plan();
+    let weights = weights_of(alloc, t, order)?;
+    let mut visits = Visits::new(alloc);
+    let outputs = walked_outputs(alloc, t, &weights, limits, &mut visits)?;
+    let bound = bound_of(alloc, t, order)?;
+    let verdict = Verdict { bound, outputs };
+    match visits.places {
+        Some(reached) => Ok(Survey { verdict, reached }),
+        None => unreachable!(),
+    }
 }
 
 /// The ranges of the outputs behind MAIN.
@@ -68,9 +107,12 @@ fn walked_outputs(
     plan: &Typed,
     weights: &[u64],
     limits: &Limits,
+    visits: &mut Visits,
 ) -> Result<Vec<OutputRange>, RangeFault>
     requires { HaveLimits (flowchart_of plan.now) limits.now }
-    ensures { OutputAnswer (analysed (flowchart_of plan.now) limits.now) result }
+    ensures outputs { OutputAnswer (analysed (flowchart_of plan.now) limits.now) result }
+    ensures visits { OnOk result (Marks (WalkComes (flowchart_of plan.now) limits.now)
+        visits.old visits.new) }
 {
     let ranges = start_ranges(alloc, plan, limits)?;
     let mut variables = Variables::new(alloc, ranges);
@@ -86,6 +128,6 @@ fn walked_outputs(
         at: 0,
         chain: LONGEST_CHAIN,
     };
-    walk.walk_body(start, main, &mut variables)?;
+    walk.walk_body(start, main, &mut variables, visits)?;
     output_ranges(alloc, plan, &variables.ranges)
 }

@@ -23,8 +23,9 @@ mod statements;
 mod tables;
 mod variables;
 mod verdict;
+mod visits;
 mod weights;
 
-pub use analysis::analyse;
+pub use analysis::{analyse, survey};
 pub use fault::RangeFault;
-pub use verdict::{OutputRange, Verdict};
+pub use verdict::{OutputRange, Survey, Verdict};

@@ -8,8 +8,9 @@ ghost use Rattle.interval_walk.specs.Walked.{range_kept_as};
 ghost use Rattle.interval_analysis.specs.private.Changes.{changed};
 ghost use Rattle.interval_analysis.specs.private.PlanViews.{ranges_in, branches_in};
 ghost use Rattle.interval_analysis.specs.private.VariableViews.{AreHeld, GoesOn};
+ghost use Rattle.interval_analysis.specs.private.VisitViews.{ComesIn, ComesInBoth, ComesInCall, ComesInLists, ComesInside, Marks};
 ghost use Rattle.pap_tree.specs.private.TreeViews.{if_of, methods_in};
-ghost use Rattle.interval_analysis.specs.private.StatementViews.{CanWalkBody, CanWalkLists, CanAssign, CanPut, CanKeep, IsMethodBody, Passes, EnvAnswer, through_body, through_if, through_fork, through_first, through_second, through_both, evaluated, executed, assigned_in, fault_of};
+ghost use Rattle.interval_analysis.specs.private.StatementViews.{CanWalkBody, CanWalkLists, CanAssign, CanPut, CanKeep, IsMethodBody, Passes, EnvAnswer, through_body, through_if, through_fork, through_first, through_second, through_both, evaluated, executed, assigned_in, fault_of, first_spot, second_spot};
 
 use crate::RangeFault;
 use crate::branches::{Branches, Change};
@@ -18,6 +19,7 @@ use crate::expressions::{Stop, Walk};
 use crate::joins::meet;
 use crate::lists::written;
 use crate::variables::Variables;
+use crate::visits::Visits;
 use crate::weights::weight;
 use interval_num::{Abs, RangeCause};
 use pap_tree::{Expr, Kind, Method, Name, Place, Stmt};
@@ -53,18 +55,25 @@ impl Walk<'_> {
         spot: Spot,
         body: &[Stmt],
         variables: &mut Variables,
+        visits: &mut Visits,
     ) -> Result<u32, RangeFault>
         requires walk { CanWalkBody self.now (body_of body.now) spot.at }
         requires held { AreHeld self.now.plan.now variables.old }
         ensures passes { Passes (through_body self.now spot (body_of body.now) variables.old.ranges.items)
             variables.new.ranges.items result }
         ensures on { GoesOn self.now.plan.now variables.old variables.new }
+        ensures visits { OnOk result (Marks
+            (ComesIn self.now spot (body_of body.now)
+            (ranges_in self.now.plan.now variables.old.ranges.items))
+            visits.old visits.new) }
     {
         let mark = variables.notes.len();
-        let mut next = spot.at;
+        let Spot { method, at, .. } = spot;
+        let mut next = at;
         for stmt in body {
             variables.trim(mark)?;
-            next = self.walk_statement(Spot { at: next, ..spot }, stmt, variables)?;
+            visits.mark(method, next)?;
+            next = self.walk_statement(Spot { at: next, ..spot }, stmt, variables, visits)?;
         }
         Ok(next)
     }
@@ -75,12 +84,17 @@ impl Walk<'_> {
         spot: Spot,
         stmt: &Stmt,
         variables: &mut Variables,
+        visits: &mut Visits,
     ) -> Result<u32, RangeFault>
         requires walk { CanWalkBody self.now (stmt_then stmt.now done) spot.at }
         requires held { AreHeld self.now.plan.now variables.old }
         ensures passes { Passes (through_body self.now spot (stmt_then stmt.now done) variables.old.ranges.items)
             variables.new.ranges.items result }
         ensures on { GoesOn self.now.plan.now variables.old variables.new }
+        ensures visits { OnOk result (Marks
+            (ComesInside self.now spot (stmt_then stmt.now done)
+            (ranges_in self.now.plan.now variables.old.ranges.items))
+            visits.old visits.new) }
     {
         let Spot { at, chain, .. } = spot;
         match stmt {
@@ -88,15 +102,17 @@ impl Walk<'_> {
                 self.assign(spot, target, value, variables)?;
                 Ok(at + 1)
             }
-            Stmt::If { test, yes, no } => self.walk_if(spot, test, yes, no, variables),
+            Stmt::If { test, yes, no } => self.walk_if(spot, test, yes, no, variables, visits),
             Stmt::Execute { method } => {
-                self.walk_method(method, chain, variables)?;
+                self.walk_method(method, chain, variables, visits)?;
                 Ok(at + 1)
             }
         }
     }
 
     /// Gives a target the range of a value.
+    // Out of line for the same reason as `Visits::mark`: the frame of `walk_body` stands once for each nested statement.
+    #[inline(never)]
     fn assign(
         &self,
         spot: Spot,
@@ -148,18 +164,23 @@ impl Walk<'_> {
         yes: &'b [Stmt],
         no: &'b [Stmt],
         variables: &mut Variables,
+        visits: &mut Visits,
     ) -> Result<u32, RangeFault>
         requires walk { CanWalkBody self.now (if_of test.now yes.now no.now) spot.at }
         requires held { AreHeld self.now.plan.now variables.old }
         ensures passes { Passes (through_if self.now spot test.now yes.now no.now variables.old.ranges.items)
             variables.new.ranges.items result }
         ensures on { GoesOn self.now.plan.now variables.old variables.new }
+        ensures visits { OnOk result (Marks
+            (ComesInside self.now spot (if_of test.now yes.now no.now)
+            (ranges_in self.now.plan.now variables.old.ranges.items))
+            visits.old visits.new) }
     {
         match self.test(test, 0, variables) {
             Ok(Tested { branches, next }) => {
                 let root = next - 1;
                 let fork = Fork { root, yes, no };
-                self.walk_fork(spot, &fork, branches, variables)
+                self.walk_fork(spot, &fork, branches, variables, visits)
             }
             Err(stop) => Err(fault_of(stop, spot)),
         }
@@ -173,6 +194,7 @@ impl Walk<'_> {
         fork: &Fork,
         branches: Branches,
         variables: &mut Variables,
+        visits: &mut Visits,
     ) -> Result<u32, RangeFault>
         requires walk { CanWalkLists self.now spot fork.now }
         requires held { AreHeld self.now.plan.now variables.old }
@@ -180,16 +202,20 @@ impl Walk<'_> {
             (branches_in self.now.plan.now variables.old.ranges.items branches))
             variables.new.ranges.items result }
         ensures on { GoesOn self.now.plan.now variables.old variables.new }
+        ensures visits { OnOk result (Marks
+            (ComesInLists self.now spot (body_of fork.now.yes.now) (body_of fork.now.no.now)
+            (branches_in self.now.plan.now variables.old.ranges.items branches))
+            visits.old visits.new) }
     {
         let Branches { holds, fails } = branches;
         match holds {
             None => match fails {
                 None => Err(fault_at(spot, fork.root, RangeCause::Wide)),
-                Some(failed) => self.walk_second(spot, fork, &failed, variables),
+                Some(failed) => self.walk_second(spot, fork, &failed, variables, visits),
             },
             Some(held) => match fails {
-                None => self.walk_first(spot, fork, &held, variables),
-                Some(failed) => self.walk_both(spot, fork, &held, &failed, variables),
+                None => self.walk_first(spot, fork, &held, variables, visits),
+                Some(failed) => self.walk_both(spot, fork, &held, &failed, variables, visits),
             },
         }
     }
@@ -201,16 +227,21 @@ impl Walk<'_> {
         fork: &Fork,
         held: &[Change],
         variables: &mut Variables,
+        visits: &mut Visits,
     ) -> Result<u32, RangeFault>
         requires walk { CanWalkLists self.now spot fork.now }
         requires held { AreHeld self.now.plan.now variables.old }
         ensures passes { Passes (through_first self.now spot fork.now (changed variables.old.ranges.items held.now))
             variables.new.ranges.items result }
         ensures on { GoesOn self.now.plan.now variables.old variables.new }
+        ensures visits { OnOk result (Marks
+            (ComesIn self.now (first_spot spot) (body_of fork.now.yes.now)
+            (ranges_in self.now.plan.now (changed variables.old.ranges.items held.now)))
+            visits.old visits.new) }
     {
         let at = spot.at;
         let first = Spot { at: at + 1, ..spot };
-        let next = self.walk_branch(first, fork.yes, held, variables)?;
+        let next = self.walk_branch(first, fork.yes, held, variables, visits)?;
         Ok(next + written(fork.no))
     }
 
@@ -221,19 +252,24 @@ impl Walk<'_> {
         fork: &Fork,
         failed: &[Change],
         variables: &mut Variables,
+        visits: &mut Visits,
     ) -> Result<u32, RangeFault>
         requires walk { CanWalkLists self.now spot fork.now }
         requires held { AreHeld self.now.plan.now variables.old }
         ensures passes { Passes (through_second self.now spot fork.now (changed variables.old.ranges.items failed.now))
             variables.new.ranges.items result }
         ensures on { GoesOn self.now.plan.now variables.old variables.new }
+        ensures visits { OnOk result (Marks
+            (ComesIn self.now (second_spot spot fork.now) (body_of fork.now.no.now)
+            (ranges_in self.now.plan.now (changed variables.old.ranges.items failed.now)))
+            visits.old visits.new) }
     {
         let at = spot.at;
         let second = Spot {
             at: at + 1 + written(fork.yes),
             ..spot
         };
-        self.walk_branch(second, fork.no, failed, variables)
+        self.walk_branch(second, fork.no, failed, variables, visits)
     }
 
     /// Walks a list after the changes of its branch.
@@ -244,6 +280,7 @@ impl Walk<'_> {
         body: &[Stmt],
         changes: &[Change],
         variables: &mut Variables,
+        visits: &mut Visits,
     ) -> Result<u32, RangeFault>
         requires walk { CanWalkBody self.now (body_of body.now) spot.at }
         requires held { AreHeld self.now.plan.now variables.old }
@@ -251,9 +288,13 @@ impl Walk<'_> {
             (changed variables.old.ranges.items changes.now))
             variables.new.ranges.items result }
         ensures on { GoesOn self.now.plan.now variables.old variables.new }
+        ensures visits { OnOk result (Marks
+            (ComesIn self.now spot (body_of body.now)
+            (ranges_in self.now.plan.now (changed variables.old.ranges.items changes.now)))
+            visits.old visits.new) }
     {
         variables.apply(changes)?;
-        self.walk_body(spot, body, variables)
+        self.walk_body(spot, body, variables, visits)
     }
 
     /// Walks both lists, each from the ranges that the test leaves it, and joins the ranges behind them; a join that fails is at
@@ -266,6 +307,7 @@ impl Walk<'_> {
         held: &[Change],
         failed: &[Change],
         variables: &mut Variables,
+        visits: &mut Visits,
     ) -> Result<u32, RangeFault>
         requires walk { CanWalkLists self.now spot fork.now }
         requires held { AreHeld self.now.plan.now variables.old }
@@ -275,14 +317,19 @@ impl Walk<'_> {
             (changed variables.old.ranges.items failed.now))
             variables.new.ranges.items result }
         ensures on { GoesOn self.now.plan.now variables.old variables.new }
+        ensures visits { OnOk result (Marks
+            (ComesInBoth self.now spot fork.now
+            (changed variables.old.ranges.items held.now)
+            (changed variables.old.ranges.items failed.now))
+            visits.old visits.new) }
     {
         let typed = self.plan.typed();
         let first = weight(typed, fork.yes, self.weights);
         let second = weight(typed, fork.no, self.weights);
         if first < second {
-            self.walk_second_last(spot, fork, held, failed, variables)
+            self.walk_second_last(spot, fork, held, failed, variables, visits)
         } else {
-            self.walk_first_last(spot, fork, held, failed, variables)
+            self.walk_first_last(spot, fork, held, failed, variables, visits)
         }
     }
 
@@ -295,6 +342,7 @@ impl Walk<'_> {
         held: &[Change],
         failed: &[Change],
         variables: &mut Variables,
+        visits: &mut Visits,
     ) -> Result<u32, RangeFault>
         requires walk { CanWalkLists self.now spot fork.now }
         requires held { AreHeld self.now.plan.now variables.old }
@@ -304,15 +352,20 @@ impl Walk<'_> {
             (changed variables.old.ranges.items failed.now))
             variables.new.ranges.items result }
         ensures on { GoesOn self.now.plan.now variables.old variables.new }
+        ensures visits { OnOk result (Marks
+            (ComesInBoth self.now spot fork.now
+            (changed variables.old.ranges.items held.now)
+            (changed variables.old.ranges.items failed.now))
+            visits.old visits.new) }
     {
         let outset = variables.notes.len();
         let at = spot.at;
         let first = Spot { at: at + 1, ..spot };
-        let next = self.walk_branch(first, fork.yes, held, variables)?;
+        let next = self.walk_branch(first, fork.yes, held, variables, visits)?;
         let mark = variables.notes.len();
         variables.return_to(outset)?;
         let second = Spot { at: next, ..spot };
-        let next = self.walk_branch(second, fork.no, failed, variables)?;
+        let next = self.walk_branch(second, fork.no, failed, variables, visits)?;
         match meet(fork.root, variables, mark) {
             Ok(()) => Ok(next),
             Err(stop) => Err(fault_of(stop, spot)),
@@ -328,6 +381,7 @@ impl Walk<'_> {
         held: &[Change],
         failed: &[Change],
         variables: &mut Variables,
+        visits: &mut Visits,
     ) -> Result<u32, RangeFault>
         requires walk { CanWalkLists self.now spot fork.now }
         requires held { AreHeld self.now.plan.now variables.old }
@@ -337,6 +391,11 @@ impl Walk<'_> {
             (changed variables.old.ranges.items failed.now))
             variables.new.ranges.items result }
         ensures on { GoesOn self.now.plan.now variables.old variables.new }
+        ensures visits { OnOk result (Marks
+            (ComesInBoth self.now spot fork.now
+            (changed variables.old.ranges.items held.now)
+            (changed variables.old.ranges.items failed.now))
+            visits.old visits.new) }
     {
         let outset = variables.notes.len();
         let at = spot.at;
@@ -345,10 +404,10 @@ impl Walk<'_> {
             at: at + 1 + written(fork.yes),
             ..spot
         };
-        let behind = self.walk_branch(second, fork.no, failed, variables);
+        let behind = self.walk_branch(second, fork.no, failed, variables, visits);
         let mark = variables.notes.len();
         variables.return_to(outset)?;
-        self.walk_branch(first, fork.yes, held, variables)?;
+        self.walk_branch(first, fork.yes, held, variables, visits)?;
         let next = behind?;
         match meet(fork.root, variables, mark) {
             Ok(()) => Ok(next),
@@ -363,11 +422,16 @@ impl Walk<'_> {
         name: &Name,
         chain: u32,
         variables: &mut Variables,
+        visits: &mut Visits,
     ) -> Result<(), RangeFault>
         requires { AreHeld self.now.plan.now variables.old }
         ensures passes { EnvAnswer self.now (executed self.now name.now chain variables.old.ranges.items)
             variables.new.ranges.items result }
         ensures on { GoesOn self.now.plan.now variables.old variables.new }
+        ensures visits { OnOk result (Marks
+            (ComesInCall self.now name.now chain
+            (ranges_in self.now.plan.now variables.old.ranges.items))
+            visits.old visits.new) }
     {
         let start = Spot {
             method: *name,
@@ -383,7 +447,7 @@ impl Walk<'_> {
                     chain: chain - 1,
                     ..start
                 };
-                self.walk_body(within, body, variables)?;
+                self.walk_body(within, body, variables, visits)?;
                 Ok(())
             }
             None => Err(fault_at(start, 0, RangeCause::Wide)),

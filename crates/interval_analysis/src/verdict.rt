@@ -2,6 +2,7 @@
 
 use interval_num::Abs;
 use pap_tree::Name;
+use std::collections::BTreeSet;
 
 /// An output with the range in which its values lie.
 #[derive(Clone, Copy)]
@@ -19,4 +20,13 @@ pub struct Verdict {
     pub bound: u64,
     /// The ranges of the outputs, in declared order.
     pub outputs: Vec<OutputRange>,
+}
+
+/// What is known of a plan whose walk passes.
+#[derive(Drop)]
+pub struct Survey {
+    /// What `analyse` answers.
+    pub verdict: Verdict,
+    /// The statements to which the walk comes, each by its method and its number there, from 0.
+    pub reached: BTreeSet<(Name, u32)>,
 }

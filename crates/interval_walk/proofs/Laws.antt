@@ -33,6 +33,8 @@ pub use Rattle.interval_walk.proofs.ScopeLemmas.{IsSoundScope}
 pub use Rattle.interval_walk.proofs.PlanLemmas.{sound_scope}
 pub use Rattle.interval_walk.proofs.TermSound.{term_sound, test_sound}
 pub use Rattle.interval_walk.proofs.WalkSound.{BodyHolds, CallsHold, body_sound, calls_hold}
+-- where it passes, it comes to each statement that a run on admitted inputs executes
+pub use Rattle.interval_walk.proofs.VisitSound.{executed_visited}
 -- what is at most another is so at each scale; the start lies in its ranges
 pub use Rattle.interval_walk.proofs.StartSound.{at_most, start_inside, start_variables, are_inputs}
 -- some branch of a test can be reached

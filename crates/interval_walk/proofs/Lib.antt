@@ -21,4 +21,5 @@ pub mod ReadSound
 pub mod AdmissionLemmas
 pub mod AskedWalk
 pub mod RefusedWalk
+pub mod VisitSound
 pub mod Laws

@@ -93,7 +93,7 @@ kept_inside scope declares.Big e j rs a v f g h = h
 kept_inside scope declares.Factor e j rs a v f g h = factor_inside a v (literal_places scope e 0 rs a f g) h
 kept_inside scope declares.Table e j rs a v f g h = h
 
-assigned_inside : (scope : Scope) (x : List ℕ) (e : Term) (rs : Ranges) (env : Env) (a : Interval) (v : Decimal) → TargetSuits scope x e → ranged scope e 0 rs ≡ Ok a → Contains a v → AreWithin rs env → AreWithin (assigned_range scope x a rs) (assigned scope x v env)
+pub assigned_inside : (scope : Scope) (x : List ℕ) (e : Term) (rs : Ranges) (env : Env) (a : Interval) (v : Decimal) → TargetSuits scope x e → ranged scope e 0 rs ≡ Ok a → Contains a v → AreWithin rs env → AreWithin (assigned_range scope x a rs) (assigned scope x v env)
 assigned_inside scope x e rs env a v t g h w =
     let d = t.declaration in
     let inside = kept_inside scope d.kind e (kind_of scope e) rs a v t.suits g h in
@@ -138,23 +138,23 @@ joined_right (r ∷ rs) (s ∷ ss) zs (v ∷ vs) n e w =
     subst (λ z. AreWithin z (v ∷ vs)) m.all_is (first ∙ w.0, h, joined_right rs ss m.tail vs rest m.tail_is w.2)
 
 -- the branch that a run takes, and what the two leave together
-record IsTaken (go : Ranges → Result Ranges WalkFault) (s mid : Ranges) : Type 0 where
-  ends : Ranges
-  is : go s ≡ Ok ends
-  holds : (env : Env) → AreWithin ends env → AreWithin mid env
+pub record IsTaken (go : Ranges → Result Ranges WalkFault) (s mid : Ranges) : Type 0 where
+  pub ends : Ranges
+  pub is : go s ≡ Ok ends
+  pub holds : (env : Env) → AreWithin ends env → AreWithin mid env
 
 module _ (name : List ℕ) (at node : ℕ) (none : WalkFault) (first second : Ranges → Result Ranges WalkFault) (mid : Ranges) where
   abbrev both_meet : Option Ranges → Option Ranges → Result Ranges WalkFault
   both_meet o p = either_way none first second (meet name at node) o p
 
-  took_first : (o : Option Ranges) (s : Ranges) → both_meet (Some s) o ≡ Ok mid → IsTaken first s mid
+  pub took_first : (o : Option Ranges) (s : Ranges) → both_meet (Some s) o ≡ Ok mid → IsTaken first s mid
   took_first None s e = record { ends = mid; is = e; holds = λ env w. w }
   took_first (Some t) s e =
       let x = stepped (first s) (λ x. and_then (second t) (λ y. meet name at node x y)) mid e in
       let y = stepped (second t) (λ y. meet name at node x.0 y) mid x.2 in
       record { ends = x.0; is = x.1; holds = λ env w. joined_left x.0 y.0 mid env (met name at node x.0 y.0 mid y.2) w }
 
-  took_second : (rs : Ranges) (o : Option Ranges) (s : Ranges) → StayNamed rs o → names_in s ≡ names_in rs → ((s u : Ranges) → first s ≡ Ok u → names_in u ≡ names_in s) → ((s u : Ranges) → second s ≡ Ok u → names_in u ≡ names_in s) → both_meet o (Some s) ≡ Ok mid → IsTaken second s mid
+  pub took_second : (rs : Ranges) (o : Option Ranges) (s : Ranges) → StayNamed rs o → names_in s ≡ names_in rs → ((s u : Ranges) → first s ≡ Ok u → names_in u ≡ names_in s) → ((s u : Ranges) → second s ≡ Ok u → names_in u ≡ names_in s) → both_meet o (Some s) ≡ Ok mid → IsTaken second s mid
   took_second rs None s ho hs nf ns e = record { ends = mid; is = e; holds = λ env w. w }
   took_second rs (Some t) s ho hs nf ns e =
       let x = stepped (first t) (λ x. and_then (second s) (λ y. meet name at node x y)) mid e in

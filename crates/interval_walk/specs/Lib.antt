@@ -11,5 +11,6 @@ pub mod Refusals
 pub mod Shapes
 pub mod Soundness
 pub mod WalkReading
+pub mod Visits
 pub mod Walked
 pub mod private

@@ -5,7 +5,7 @@
 mod soundness;
 
 pub use soundness::{
-    admitted_inputs_are_safe, no_range_gets_empty, nothing_is_refused_outright,
-    ranges_suit_their_kinds, reading_refuses_nothing, refusals_are_rows, some_branch_is_reached,
-    walks_read_all,
+    admitted_inputs_are_safe, executed_statements_are_visited, no_range_gets_empty,
+    nothing_is_refused_outright, ranges_suit_their_kinds, reading_refuses_nothing,
+    refusals_are_rows, some_branch_is_reached, walks_read_all,
 };

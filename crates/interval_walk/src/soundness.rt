@@ -4,12 +4,19 @@ ghost use Rattle.interval_walk.specs.Asked.{NothingIsRefusedOutright};
 ghost use Rattle.interval_walk.specs.Reading.{NothingIsRefusedAtReading};
 ghost use Rattle.interval_walk.specs.Refusals.{RefusalsAreRows};
 ghost use Rattle.interval_walk.specs.Soundness.{AnalysisIsSound, RangesHaveShape, SomeBranchIsReached, NoRangeGetsEmpty};
+ghost use Rattle.interval_walk.specs.Visits.{ExecutedAreVisited};
 ghost use Rattle.interval_walk.specs.WalkReading.{WalksReadAll};
 
 /// Where the walk of a well-typed plan passes, each list of inputs that its limits admit is safe, and each output lies in its
 /// range and within the bound of outputs.
 pub fn admitted_inputs_are_safe()
     ensures { AnalysisIsSound }
+{}
+
+/// Where the walk of a well-typed plan passes, it comes to each statement that a run on admitted inputs executes, with ranges in which
+/// the values of the variables lie there. So no such run executes a statement to which the walk never comes.
+pub fn executed_statements_are_visited()
+    ensures { ExecutedAreVisited }
 {}
 
 /// The range of an expression that the walk passes is that of a whole number of its kind's bits, or has at most 30 places.

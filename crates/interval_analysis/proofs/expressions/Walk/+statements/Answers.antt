@@ -1,4 +1,4 @@
-use Rattle.std.proofs.Common.{Ok, Err, ◌≡◌, ◌+◌, ◌-◌, drop, sym, ap, ◌∙◌, subst, arith}
+use Rattle.std.proofs.Common.{Ok, Err, ◌≡◌, ◌+◌, ◌-◌, ◌⊎◌, inl, inr, OnOk, drop, sym, ap, ◌∙◌, subst, arith}
 use Rattle.pap_tree.specs.Flowchart.{body_of, stmt_then, done}
 use Rattle.pap_tree.specs.Statements.{written}
 use Rattle.pap_tree.proofs.Laws.{stmt_at, branch_is}
@@ -10,6 +10,9 @@ use Rattle.interval_analysis.specs.private.StatementViews.{joined_lists, first_s
 use Rattle.interval_analysis.specs.declared.statements.Fork.{Fork}
 use Rattle.interval_analysis.specs.private.Changes.{changed}
 use Rattle.interval_analysis.specs.private.Meetings.{MeetsAnswer}
+use Rattle.interval_analysis.specs.private.StatementViews.{second_spot}
+use Rattle.interval_analysis.specs.private.VisitViews.{MarkIn, ComesIn, ComesInBoth, ComesInside}
+use Rattle.interval_analysis.proofs.VisitLemmas.{mark_none, mark_then, turn_marks, call_marks}
 use Rattle.interval_analysis.proofs.NoteLemmas.{noted_then, since}
 use Rattle.interval_analysis.proofs.RepeatLemmas.{noted_longer}
 use Rattle.interval_analysis.proofs.CountLemmas.{written_at, can_here, can_rest}
@@ -95,6 +98,12 @@ walk_body-loop-stmt-preserved t c =
           ∙ ap (walked_in w (record spot { at = next }) (body_of (drop i body))) c.in_ok-trim.ensures.ranges
           ∙ c.loop-stmt.invariant.left;
       on = goes_then p was c.trim.new.self c.walk_statement.new.variables on c.in_ok-next.ensures.on;
+      marks =
+          λ last h. c.loop-stmt.invariant.marks last
+          (subst (λ rs. MarkIn (ComesIn w (record spot { at = next }) (body_of (drop i body)) (ranges_in p rs)) c.loop-stmt.visits.places last) c.in_ok-trim.ensures.ranges
+          (subst (λ b. MarkIn (ComesIn w (record spot { at = next }) b (ranges_in p rs)) c.loop-stmt.visits.places last) (sym is)
+          (turn_marks w (record spot { at = next }) s rest c.in_ok-next.next rs c.walk_statement.new.variables.ranges.items c.loop-stmt.visits.places c.mark.new.self.places c.walk_statement.new.visits.places last
+          c.in_ok-mark.ensures c.in_ok-next.ensures.visits step.0 step.1 h)));
     }
 
 pub walk_method-returns-then-chain-eq0-clause-passes : goal.walk_method-returns-then-chain-eq0-clause-passes
@@ -122,6 +131,12 @@ walk_method-returns-in_ok-walk_body-in-Some-clause-passes t c =
     calls_body (scope_in p) (methods_in p) c.args.name.now (ranges_in p c.args.variables.now.ranges.items) c.args.chain (body_of c.in-Some.body.now) c.if-chain-eq0.false (sym (c.in-Some.ensures.body ∙ ap (λ p. body_named (methods_in p) c.args.name.now) c.typed.ensures))
     ∙ c.in_ok-walk_body-in-Some.ensures.passes.0
 
+pub walk_method-returns-in_ok-walk_body-in-Some-clause-visits : goal.walk_method-returns-in_ok-walk_body-in-Some-clause-visits
+walk_method-returns-in_ok-walk_body-in-Some-clause-visits t c =
+    let w = c.args.self.now in
+    call_marks w c.args.name.now c.args.chain (body_of c.in-Some.body.now) (ranges_in w.plan.now c.args.variables.now.ranges.items) c.args.visits.now.places c.walk_body.new.visits.places c.if-chain-eq0.false
+    (sym (c.in-Some.ensures.body ∙ ap (λ p. body_named (methods_in p) c.args.name.now) c.typed.ensures)) c.in_ok-walk_body-in-Some.ensures.visits
+
 pub walk_method-returns-in-None-clause-passes : goal.walk_method-returns-in-None-clause-passes
 walk_method-returns-in-None-clause-passes t c =
     let w = c.args.self.now in
@@ -134,6 +149,20 @@ walk_statement-walk_if-requires t c =
     let is = branch_is c.args.stmt.now c.in-If.test c.in-If.yes c.in-If.no c.deref.result.now c.deref-in-If.result.now c.in-If.is c.deref.ensures.value c.deref-in-If.ensures.value done in
     let count = ap written is in
     (omega (arith, count, c.decreases), (subst (λ b. CanWalkBody c.args.self.now b c.args.spot.at) is c.requires.walk, c.requires.held))
+
+pub walk_statement-returns-in_ok-assign-in-Eval-clause-visits : goal.walk_statement-returns-in_ok-assign-in-Eval-clause-visits
+walk_statement-returns-in_ok-assign-in-Eval-clause-visits t c =
+    let w = c.args.self.now in
+    subst (λ s. MarkIn (ComesInside w c.args.spot (stmt_then s done) (ranges_in w.plan.now c.args.variables.now.ranges.items)) c.args.visits.now.places c.args.visits.now.places) (sym c.in-Eval.is)
+    (mark_none (λ v. ⊥) c.args.visits.now.places (λ v h. h))
+
+pub walk_statement-returns-in-If-clause-visits : goal.walk_statement-returns-in-If-clause-visits
+walk_statement-returns-in-If-clause-visits t c =
+    let w = c.args.self.now in
+    let spot = c.args.spot in
+    let rs = c.args.variables.now.ranges.items in
+    let is = branch_is c.args.stmt.now c.in-If.test c.in-If.yes c.in-If.no c.deref.result.now c.deref-in-If.result.now c.in-If.is c.deref.ensures.value c.deref-in-If.ensures.value done in
+    subst (λ b. OnOk c.walk_if.result (MarkIn (ComesInside w spot b (ranges_in w.plan.now rs)) c.args.visits.now.places c.walk_if.new.visits.places)) (sym is) c.walk_if.ensures.visits
 
 pub walk_statement-returns-in-If-clause-passes : goal.walk_statement-returns-in-If-clause-passes
 walk_statement-returns-in-If-clause-passes t c =
@@ -231,6 +260,25 @@ walk_second_last-returns-in-Ok-clause-passes t c =
       omega (arith, first.1, last.1),
     )
 
+pub walk_second_last-returns-in-Ok-clause-visits : goal.walk_second_last-returns-in-Ok-clause-visits
+walk_second_last-returns-in-Ok-clause-visits t c =
+    let w = c.args.self.now in
+    let spot = c.args.spot in
+    let f = c.args.fork.now in
+    let was = c.args.variables.now in
+    let s = c.walk_branch.new.variables in
+    let hs = changed was.ranges.items c.args.held.now in
+    let fs = changed was.ranges.items c.args.failed.now in
+    let back = c.in_ok-return_to.ensures.ranges ∙ since was s c.len-outset.result (c.len-outset.ensures ∙ was.notes.ok.0) c.in_ok-next.ensures.on.noted in
+    let first = c.in_ok-next.ensures.passes in
+    let places = c.walk_branch.new.visits.places in
+    let last = c.walk_branch-2.new.visits.places in
+    let second =
+    subst (λ k. MarkIn (ComesIn w (record spot { at = k }) (body_of f.no.now) (ranges_in w.plan.now fs)) places last) first.1
+    (subst (λ rs. MarkIn (ComesIn w (record spot { at = c.in_ok-next.next }) (body_of f.no.now) (ranges_in w.plan.now (changed rs c.args.failed.now))) places last) back c.in_ok-next-2.ensures.visits) in
+    mark_then (ComesIn w (first_spot spot) (body_of f.yes.now) (ranges_in w.plan.now hs)) (ComesIn w (second_spot spot f) (body_of f.no.now) (ranges_in w.plan.now fs)) (ComesInBoth w spot f hs fs)
+    c.args.visits.now.places places last c.in_ok-next.ensures.visits second (λ v. (λ h. h, λ h. h))
+
 pub walk_second_last-returns-in-Err-clause-passes : goal.walk_second_last-returns-in-Err-clause-passes
 walk_second_last-returns-in-Err-clause-passes t c =
     let w = c.args.self.now in
@@ -315,6 +363,28 @@ walk_first_last-returns-in-Ok-clause-passes t c =
       both_join w spot f (spot.at + 1 + c.written.result) hs fs r.ranges.items s.ranges.items c.in_ok-walk_branch.ensures.on.held.sized c.walk_branch-behind.ensures.on.held.sized number first.0 last.0 new met,
       omega (arith, number, last.1),
     )
+
+pub walk_first_last-returns-in-Ok-clause-visits : goal.walk_first_last-returns-in-Ok-clause-visits
+walk_first_last-returns-in-Ok-clause-visits t c =
+    let w = c.args.self.now in
+    let spot = c.args.spot in
+    let f = c.args.fork.now in
+    let was = c.args.variables.now in
+    let s = c.walk_branch-behind.new.variables in
+    let hs = changed was.ranges.items c.args.held.now in
+    let fs = changed was.ranges.items c.args.failed.now in
+    let back = c.in_ok-return_to.ensures.ranges ∙ since was s c.len-outset.result (c.len-outset.ensures ∙ was.notes.ok.0) c.walk_branch-behind.ensures.on.noted in
+    let number : spot.at + 1 + c.written.result ≡ spot.at + 1 + written (body_of f.yes.now) = omega (arith, c.written.ensures) in
+    let places = c.walk_branch-behind.new.visits.places in
+    let last = c.walk_branch.new.visits.places in
+    let second = subst (λ k. MarkIn (ComesIn w (record spot { at = k }) (body_of f.no.now) (ranges_in w.plan.now fs)) c.args.visits.now.places places) number c.in_ok-next.ensures.visits in
+    let first = subst (λ rs. MarkIn (ComesIn w (first_spot spot) (body_of f.yes.now) (ranges_in w.plan.now (changed rs c.args.held.now))) places last) back c.in_ok-walk_branch.ensures.visits in
+    mark_then (ComesIn w (second_spot spot f) (body_of f.no.now) (ranges_in w.plan.now fs)) (ComesIn w (first_spot spot) (body_of f.yes.now) (ranges_in w.plan.now hs)) (ComesInBoth w spot f hs fs)
+    c.args.visits.now.places places last second first (λ v. (swap, swap))
+  where
+    swap : {A B : Type 0} → A ⊎ B → B ⊎ A
+    swap (inl h) = inr h
+    swap (inr h) = inl h
 
 pub walk_first_last-returns-in-Err-clause-passes : goal.walk_first_last-returns-in-Err-clause-passes
 walk_first_last-returns-in-Err-clause-passes t c =
