@@ -2,6 +2,7 @@ mod AcceptLemmas
 mod AcceptedLaws
 mod AnswerLaws
 mod BindingLemmas
+mod BoundLemmas
 mod CountLemmas
 mod HeldLemmas
 pub mod Laws

@@ -2,6 +2,7 @@ pub mod Acceptance
 pub mod AcceptanceClauses
 pub mod AcceptanceLaws
 pub mod Bindings
+pub mod BoundPlans
 pub mod Inputs
 pub mod Plans
 pub mod StageRefusals

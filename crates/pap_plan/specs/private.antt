@@ -1,3 +1,4 @@
 pub mod AcceptanceClauses
 pub mod BindingViews
+pub mod BoundViews
 pub mod JudgedViews

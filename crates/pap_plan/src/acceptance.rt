@@ -50,7 +50,7 @@ pub fn accept(alloc: Global, plan: &[u8], limits: &[u8]) -> Result<Plan, PlanRef
 }
 
 /// The plan's text, where its names and kinds are right.
-fn read_typed(alloc: Global, plan: &[u8]) -> Result<Typed, PlanRefusal>
+pub(crate) fn read_typed(alloc: Global, plan: &[u8]) -> Result<Typed, PlanRefusal>
     ensures typed { IfOk result (λ t. IsTypedPlan plan.now (flowchart_of t)) }
     ensures refused { IfErr result (IsUntyped plan.now) }
 {
@@ -131,7 +131,7 @@ fn compiled(
 }
 
 /// The limits and bindings are those of the plan's inputs and outputs, or the first name that isn't so.
-fn match_limits(plan: &PlanText, ranges: &Limits) -> Result<(), PlanRefusal>
+pub(crate) fn match_limits(plan: &PlanText, ranges: &Limits) -> Result<(), PlanRefusal>
     ensures matched { OnOk result (AreMatched (flowchart_of plan.now) ranges.now) }
     ensures refused { IfErr result (IsUnmatched (flowchart_of plan.now) ranges.now) }
 {

@@ -3,11 +3,13 @@
 
 mod acceptance;
 mod bindings;
+mod bound;
 mod inputs;
 mod plan;
 mod refusal;
 
 pub use acceptance::{accept, acceptance_laws, read_plan};
+pub use bound::{BoundPlan, read_bound};
 pub use plan::Plan;
 pub use plan_text::Spot;
 pub use refusal::PlanRefusal;
