@@ -1,0 +1,5 @@
+pub mod OutputLemmas
+pub mod PartLemmas
+pub mod SampleLemmas
+pub mod StateLemmas
+pub mod WholeLemmas

@@ -1,0 +1,3 @@
+pub mod OutputViews
+pub mod PartViews
+pub mod SampleViews
