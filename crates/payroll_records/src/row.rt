@@ -1,13 +1,13 @@
 //! One row of a table.
-ghost use Rattle.std.specs.Prelude.{◌≡◌, ◌↔◌, ◌+◌, ◌<◌, ◌≤◌, ℕ, IfOk, IfErr, IsTrue, MatchOption, Some, length};
+ghost use Rattle.std.specs.Prelude.{◌≡◌, ◌↔◌, ◌≤◌, IfOk, IfErr, OnErr, OnOk, alloc_error, length};
 ghost use Rattle.std.specs.List.{Contains};
 ghost use Rattle.csv.specs.Records.{fields_of};
-ghost use Rattle.scaled_decimal.specs.Decimals.{Decimal};
 ghost use Rattle.payroll_records.specs.Limits.{most_values};
 ghost use Rattle.payroll_records.specs.NamedValues.{AreValues};
-ghost use Rattle.payroll_records.specs.Tables.{IsNumberText, IsReadable, IsRecordOf, Supplies, cell_of};
-ghost use Rattle.payroll_records.specs.private.CellViews.{filled_cells, is_filled};
-ghost use Rattle.payroll_records.specs.private.TableViews.{AreColumns, IsFirstBroken, IsRowFault};
+ghost use Rattle.payroll_records.specs.Tables.{IsReadable, IsRecordOf, Supplies};
+ghost use Rattle.payroll_records.specs.private.CellViews.{AreNumbersOf, AreReadable, IsCellFault, IsNumberOf, number_at};
+ghost use Rattle.payroll_records.specs.private.TableViews.{AreColumns, IsRowFault};
+ghost use Rattle.payroll_records.specs.declared.row.CellFault.TheVariants.{Memory as NoMemory};
 ghost use Rattle.payroll_records.specs.declared.row.RowFault.TheVariants.{Memory};
 ghost use Rattle.payroll_records.specs.declared.values.NamedValue.{NamedValue};
 
@@ -15,8 +15,8 @@ use crate::header::{FIRST_VALUE, Header, field};
 use crate::{Day, Employee, Month, Record, Values};
 use csv::ByteRecord;
 use pap_tree::Name;
-use scaled_decimal::{Dec, read_dec};
-use std::alloc::{AllocError, Global};
+use scaled_decimal::{Dec, NumFault, read_dec};
+use std::alloc::{AllocError, AllocFailed, Global};
 use std::rc::RcSlice;
 
 /// What is wrong with a row by itself.
@@ -41,6 +41,31 @@ impl From<AllocError> for RowFault {
 
     fn from(error: AllocError) -> RowFault {
         RowFault::Memory(error)
+    }
+}
+
+/// Why the cells of a row spell no values.
+#[derive(Drop)]
+pub(crate) enum CellFault {
+    /// The leftmost cell that neither is empty nor spells a number is the one at this place.
+    Broken(usize),
+    /// There was no memory for the values.
+    Memory(AllocError),
+}
+
+impl From<AllocError> for CellFault {
+    ghost from_gives = { λ error fault. fault ≡ NoMemory error };
+
+    fn from(error: AllocError) -> CellFault {
+        CellFault::Memory(error)
+    }
+}
+
+impl<T: Drop> From<AllocFailed<T>> for CellFault {
+    ghost from_gives = { λ failed fault. fault ≡ NoMemory alloc_error };
+
+    fn from(_failed: AllocFailed<T>) -> CellFault {
+        CellFault::Memory(AllocError)
     }
 }
 
@@ -71,69 +96,60 @@ pub(crate) fn read_row(
     if month.year != day.year || month.month != day.month {
         return Err(RowFault::Day);
     }
-    if let Some(place) = first_broken(row, header.names.len()) {
-        return Err(RowFault::Value {
+    match values_of(alloc, header, row, before) {
+        Ok(values) => Ok(Record {
+            employee,
+            day,
+            values,
+        }),
+        Err(CellFault::Broken(place)) => Err(RowFault::Value {
             name: header.names[place],
-        });
+        }),
+        Err(CellFault::Memory(error)) => Err(RowFault::Memory(error)),
     }
-    let values = values_of(alloc, header, row, before)?;
-    Ok(Record {
-        employee,
-        day,
-        values,
-    })
 }
 
-/// The place of the leftmost cell of values that neither is empty nor spells a number.
-fn first_broken(row: &ByteRecord, count: usize) -> Option<usize>
+/// The number of each cell of values, in order of the columns; none where the cell is empty.
+fn read_cells(alloc: Global, row: &ByteRecord, count: usize) -> Result<Vec<Option<Dec>>, CellFault>
     requires { count ≤ most_values }
-    ensures { MatchOption result ((i : ℕ) → i < count → IsReadable (cell_of (fields_of row.now) i))
-        (IsFirstBroken (fields_of row.now) count) }
+    ensures ok { IfOk result (λ numbers. AreNumbersOf (fields_of row.now) count numbers.items) }
+    ensures err { IfErr result (IsCellFault (fields_of row.now) count) }
 {
+    let mut numbers = Vec::with_capacity(alloc, count)?;
     for place in 0..count {
-        if !is_readable(field(row, FIRST_VALUE + place)) {
-            return Some(place);
-        }
+        let Ok(number) = read_cell(field(row, FIRST_VALUE + place)) else {
+            return Err(CellFault::Broken(place));
+        };
+        numbers.push(number)?;
     }
-    None
+    Ok(numbers)
 }
 
-/// Whether a cell of values is empty or spells a number.
-fn is_readable(cell: &[u8]) -> bool
-    ensures { IsTrue result ↔ IsReadable cell.now }
-{
-    cell.is_empty() || read_number(cell).is_some()
-}
-
-/// The number that a cell spells.
-fn read_number(cell: &[u8]) -> Option<Dec>
-    ensures { (d : Decimal) → (result ≡ Some d) ↔ IsNumberText cell.now d }
+/// The number that a cell spells. `None` where it is empty.
+fn read_cell(cell: &[u8]) -> Result<Option<Dec>, NumFault>
+    ensures ok { IfOk result (IsNumberOf cell.now) }
+    ensures err { OnErr result (IsReadable cell.now → ⊥) }
 {
     match read_dec(cell) {
-        Ok(value) => Some(value),
-        Err(_) => None,
-    }
-}
-
-/// How many of the first cells of values are not empty.
-fn filled_cells(row: &ByteRecord, count: usize) -> usize
-    requires { count ≤ most_values }
-    ensures { result ≡ filled_cells (fields_of row.now) count }
-{
-    let mut filled = 0;
-    for place in 0..count {
-        if is_filled(field(row, FIRST_VALUE + place)) {
-            filled += 1;
+        Ok(value) => Ok(Some(value)),
+        Err(fault) => {
+            if cell.is_empty() {
+                Ok(None)
+            } else {
+                Err(fault)
+            }
         }
     }
-    filled
 }
 
-/// Whether a cell is not empty.
-fn is_filled(cell: &[u8]) -> bool
-    ensures { result ≡ is_filled cell.now }
+/// The number at a place, where there is one.
+fn number_at(numbers: &[Option<Dec>], place: usize) -> Option<Dec>
+    ensures { result ≡ number_at numbers.now place }
 {
-    !cell.is_empty()
+    match numbers.get(place) {
+        Some(number) => *number,
+        None => None,
+    }
 }
 
 /// The values that the cells of a row spell. Those of the first row are told in which order the header has their names, and the
@@ -143,12 +159,15 @@ fn values_of(
     header: &Header,
     row: &ByteRecord,
     before: Option<&Record>,
-) -> Result<Values, AllocError>
+) -> Result<Values, CellFault>
     requires columns { AreColumns header.now.names.items header.now.columns.items }
     requires few { length header.now.names.items ≤ most_values }
     ensures supplied { IfOk result (λ values. (v : NamedValue) →
         Contains values v ↔ Supplies header.now.names.items (fields_of row.now) v) }
     ensures in_order { IfOk result AreValues }
+    ensures readable { OnOk result
+        (AreReadable (fields_of row.now) (length header.now.names.items)) }
+    ensures err { IfErr result (IsCellFault (fields_of row.now) (length header.now.names.items)) }
 {
     let values = values_in_cells(alloc, header, row, before)?;
     if before.is_some() {
@@ -165,22 +184,27 @@ fn values_in_cells(
     header: &Header,
     row: &ByteRecord,
     before: Option<&Record>,
-) -> Result<Values, AllocError>
+) -> Result<Values, CellFault>
     requires columns { AreColumns header.now.names.items header.now.columns.items }
     requires few { length header.now.names.items ≤ most_values }
     ensures supplied { IfOk result (λ values. (v : NamedValue) →
         Contains values v ↔ Supplies header.now.names.items (fields_of row.now) v) }
     ensures in_order { IfOk result AreValues }
+    ensures readable { OnOk result
+        (AreReadable (fields_of row.now) (length header.now.names.items)) }
+    ensures err { IfErr result (IsCellFault (fields_of row.now) (length header.now.names.items)) }
 {
-    let count = filled_cells(row, header.names.len());
+    let cells = read_cells(alloc, row, header.names.len())?;
+    let count = cells.iter().filter(|number| number.is_some()).count();
     let mut names = Vec::with_capacity(alloc, count)?;
     let mut numbers = Vec::with_capacity(alloc, count)?;
     for column in &header.columns {
-        let Some(value) = read_number(field(row, FIRST_VALUE + column.place)) else {
+        let Some(value) = number_at(cells.as_slice(), column.place) else {
             continue;
         };
         names.push(column.name)?;
         numbers.push(value)?;
     }
-    Values::from_columns(names, numbers, before.map(|record| &record.values))
+    let values = Values::from_columns(names, numbers, before.map(|record| &record.values))?;
+    Ok(values)
 }

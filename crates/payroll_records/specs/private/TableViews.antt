@@ -3,7 +3,7 @@ use Rattle.std.specs.Prelude.{◌≡◌, ℕ, ◌<◌, ◌≤◌, List, [], ◌�
 use Rattle.std.specs.List.{AllByRecursion}
 use Rattle.rising_lists.specs.Keyed.{at_key, IsRising}
 use Rattle.payroll_records.specs.NamedValues.{name_cmp}
-use Rattle.payroll_records.specs.Tables.{ByItself, Text, name_at, WrongWidth, WrongEmployee, WrongMonth, WrongDay, WrongValue, Repeats, IsFirstFault, field_of, cell_of, IsReadable}
+use Rattle.payroll_records.specs.Tables.{ByItself, Text, name_at, WrongWidth, WrongEmployee, WrongMonth, WrongDay, WrongValue, Repeats, IsFirstFault, field_of}
 use Rattle.payroll_records.specs.declared.header.Column.{Column}
 use Rattle.payroll_records.specs.declared.row.RowFault.{RowFault}
 use Rattle.payroll_records.specs.declared.row.RowFault.TheVariants as fault
@@ -68,9 +68,3 @@ pub record BeginsHeader (row : List Text) : Type 0 where
 pub record AddsColumn (old new : List Text) (columns : List Column) (name : Text) : Type 0 where
   pub names : new ≡ old ++ name ∷ []
   pub are : AreColumns new columns
-
--- the leftmost cell that isn't readable
-pub record IsFirstBroken (row : List Text) (count k : ℕ) : Type 0 where
-  pub within : k < count
-  pub earlier : (i : ℕ) → i < k → IsReadable (cell_of row i)
-  pub broken : IsReadable (cell_of row k) → ⊥
