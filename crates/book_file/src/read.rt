@@ -36,7 +36,7 @@ pub fn read_book<L: Ledger>(
     }
     match read_items(alloc, bytes) {
         Ok(items) => restore(alloc, items, steps),
-        Err(ItemFault::Form { item, plans }) => {
+        Err(ItemFault::Form { item, plans, .. }) => {
             accept_plans(alloc, &plans)?;
             Err(BookFault::Form { item })
         }

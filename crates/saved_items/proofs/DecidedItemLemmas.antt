@@ -598,7 +598,7 @@ text_go zero bytes f rest sound text enough = absurd (omega (arith, enough))
 text_go (suc fuel) bytes f rest sound text enough = elim (goes_decided f rest) [
   | inr none ↦ elim (ends_decided f rest) [
     | inl e ↦ (Ok e.saved, ends_text bytes f rest sound text e)
-    | inr more ↦ (Err (record { item = items_in f + 1; plans = plans_of_first f }), stops bytes f rest sound text none more)
+    | inr more ↦ (Err (record { item = items_in f + 1; at = length (front_text f); plans = plans_of_first f }), stops bytes f rest sound text none more)
   ]
   | inl g ↦ text_go fuel bytes (with_item f g.item) g.rest (sound_more f g.item sound g.fits)
       (text ∙ ap (λ t. front_text f ++ t) g.text ∙ sym (append_assoc (front_text f) (item_text g.item) g.rest)

@@ -1,5 +1,5 @@
 -- What a text says: at most one thing, and what it says where no item goes on.
-use Rattle.std.proofs.Common.{◌≡◌, ℕ, ◌+◌, ◌<◌, List, ◌++◌, length, Result, Ok, Err, refl, sym, ap, ap₂, ◌∙◌, subst, arith, append_assoc, inl, inr}
+use Rattle.std.proofs.Common.{◌≡◌, ℕ, ◌+◌, ◌-◌, ◌<◌, List, ◌++◌, length, Result, Ok, Err, refl, sym, ap, ap₂, ◌∙◌, subst, arith, append_assoc, length-append, inl, inr}
 use Rattle.std.specs.List.{flat_map}
 use Rattle.std.proofs.lemmas.Bool.{cases_lt}
 use Rattle.payroll_records.specs.Tables.{Text}
@@ -69,11 +69,12 @@ module _ (bytes : Text) (f : FirstItems) (rest : Text) (sound : AreFirstItems f)
         text = sym same.1;
       })
 
-  pub stops : (Ends f rest → ⊥) → StopsAtItem bytes (record { item = items_in f + 1; plans = plans_of_first f })
+  pub stops : (Ends f rest → ⊥) → StopsAtItem bytes (record { item = items_in f + 1; at = length (front_text f); plans = plans_of_first f })
   stops open_end = record {
     front = f;
     shown = record { sound = sound; rest = rest; begins = text };
     item = refl;
+    at = refl;
     plans = refl;
     stuck = λ longer shown counted. not_longer longer shown.rest shown.sound shown.begins (omega (arith, counted));
     unfinished = unfinished;
@@ -108,14 +109,15 @@ module _ (bytes : Text) (f : FirstItems) (rest : Text) (sound : AreFirstItems f)
               (sym text ∙ whole) in
               open_end (record { saved = s; all = same.0; last = same.1 })
 
-  pub stops_as : (item : ℕ) (plans : List SavedPlan) → item ≡ items_in f + 1 → plans ≡ plans_of_first f →
-      (Ends f rest → ⊥) → StopsAtItem bytes (record { item = item; plans = plans })
-  stops_as item plans counted same open_end =
+  pub stops_as : (item at : ℕ) (plans : List SavedPlan) → item ≡ items_in f + 1 → at ≡ length bytes - length rest →
+      plans ≡ plans_of_first f → (Ends f rest → ⊥) → StopsAtItem bytes (record { item = item; at = at; plans = plans })
+  stops_as item at plans counted left same open_end =
       let s = stops open_end in
       record {
         front = f;
         shown = record { sound = sound; rest = rest; begins = text };
         item = counted;
+        at = omega (arith, left, ap length text, length-append (front_text f) rest);
         plans = same;
         stuck = λ longer shown many. s.stuck longer shown (many ∙ counted);
         unfinished = s.unfinished;
@@ -181,11 +183,13 @@ no_earlier bytes a b h k lt =
     })
     (omega (arith, items_more t.front t.item t.fits, t.count, h.item))
 
-same_stop : (a b : Stop) → a.item ≡ b.item → a.plans ≡ b.plans → a ≡ b
-same_stop a b i p = ap (λ (x : ℕ). make x a.plans) i ∙ ap (λ (x : List SavedPlan). make b.item x) p
+same_stop : (a b : Stop) → a.item ≡ b.item → a.at ≡ b.at → a.plans ≡ b.plans → a ≡ b
+same_stop a b i t p =
+    ap (λ (x : ℕ). make x a.at a.plans) i ∙ ap (λ (x : ℕ). make b.item x a.plans) t
+    ∙ ap (λ (x : List SavedPlan). make b.item b.at x) p
   where
-    make : ℕ → List SavedPlan → Stop
-    make item plans = record { item = item; plans = plans }
+    make : ℕ → ℕ → List SavedPlan → Stop
+    make item at plans = record { item = item; at = at; plans = plans }
 
 stop_once : (bytes : Text) (a b : Stop) → StopsAtItem bytes a → StopsAtItem bytes b → a ≡ b
 stop_once bytes a b h k = elim (cases_lt (items_in h.front) (items_in k.front)) [
@@ -200,7 +204,8 @@ stop_once bytes a b h k = elim (cases_lt (items_in h.front) (items_in k.front)) 
     exactly e =
         let same = fronts_once (items_in h.front) h.front k.front h.shown.rest k.shown.rest refl
         (sym e) h.shown.sound k.shown.sound (sym h.shown.begins ∙ k.shown.begins) in
-        same_stop a b (h.item ∙ ap (λ n. n + 1) e ∙ sym k.item) (h.plans ∙ ap plans_of_first same.0 ∙ sym k.plans)
+        same_stop a b (h.item ∙ ap (λ n. n + 1) e ∙ sym k.item)
+        (h.at ∙ ap (λ f. length (front_text f)) same.0 ∙ sym k.at) (h.plans ∙ ap plans_of_first same.0 ∙ sym k.plans)
 
 pub text_once : (bytes : Text) (r q : Result Saved Stop) → TextSays bytes r → TextSays bytes q → r ≡ q
 text_once bytes (Ok s) (Ok t) h k = ap Ok (saved_once bytes s t h k)

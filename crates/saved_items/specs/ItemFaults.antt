@@ -24,6 +24,6 @@ saved_in items = record {
 -- why a call refuses a text: the first item that isn't of its form, or memory ran out, which may be at any
 -- text
 abbrev pub IsItemFaultOrMemory : Text → ItemFault → Type 0
-IsItemFaultOrMemory bytes (fault.Form item plans) =
-    StopsAtItem bytes (record { item = item; plans = map plan_in plans.items })
+IsItemFaultOrMemory bytes (fault.Form item at plans) =
+    StopsAtItem bytes (record { item = item; at = at; plans = map plan_in plans.items })
 IsItemFaultOrMemory bytes (fault.Memory error) = ⊤

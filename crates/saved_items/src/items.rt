@@ -36,6 +36,8 @@ pub enum ItemFault<'a> {
     Form {
         /// The number of the item, from 1 to 50069.
         item: u32,
+        /// The byte at which it would begin: how many bytes the items before it have.
+        at: usize,
         /// The plans of the items before it.
         plans: Vec<PlanItem<'a>>,
     },

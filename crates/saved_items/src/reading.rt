@@ -29,6 +29,7 @@ pub fn read_items<'a>(alloc: Global, bytes: &'a [u8]) -> Result<SavedBook<'a>, I
     }
     Err(ItemFault::Form {
         item: item_count(&front) + 1,
+        at: bytes.len() - rest.len(),
         plans: front.items.plans,
     })
 }

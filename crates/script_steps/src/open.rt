@@ -16,6 +16,7 @@ use crate::script::Script;
 use crate::stop::LineStop;
 use book_file::{BookFault, MOST_BOOK_TEXT, read_book};
 use outside::Files;
+use plain_words::TextFile;
 use recalc_engine::Book;
 use std::alloc::{AllocError, Global};
 use std::sync::ledger::Ledger;
@@ -100,7 +101,13 @@ fn open_fresh<L: Ledger>(
             Ok(answered(Vec::from_slice(alloc, OK)?, restored.work.steps))
         }
         Err(BookFault::Memory(error)) => Err(error),
-        Err(fault) => book_refusal(alloc, file, &fault),
+        Err(fault) => {
+            let saved = TextFile {
+                name: file,
+                bytes: text,
+            };
+            book_refusal(alloc, saved, &fault)
+        }
     }
 }
 

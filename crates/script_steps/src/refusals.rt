@@ -10,8 +10,9 @@ use book_file::BookFault;
 use correction_ledger::{FileRefusal, OwedRefusal};
 use month_trace::TraceRefusal;
 use payroll_records::{MOST_RECORDS, TableFault};
-use plain_words::{TextFile, table_words};
+use plain_words::{TextFile, position, table_words};
 use recalc_engine::EditRefusal;
+use saved_items::{ItemFault, read_items};
 use script_lang::LineFault;
 use std::alloc::{AllocError, Global};
 
@@ -93,7 +94,7 @@ pub(crate) fn owed_refusal(alloc: Global, why: &OwedRefusal) -> Result<LineReply
 /// The refusal of this file, whose text isn't that of a saved book.
 pub(crate) fn book_refusal(
     alloc: Global,
-    file: &str,
+    file: TextFile<'_>,
     fault: &BookFault,
 ) -> Result<LineReply, AllocError>
     ensures { IfOk result (λ reply. IsBookRefusal fault.now (reply_of reply)) }
@@ -103,22 +104,43 @@ pub(crate) fn book_refusal(
 }
 
 /// What is wrong with the saved book of this file, and what helps, in plain words.
-fn book_words(alloc: Global, file: &str, fault: &BookFault) -> Result<String, AllocError> {
+fn book_words(alloc: Global, file: TextFile<'_>, fault: &BookFault) -> Result<String, AllocError> {
+    let name = file.name;
     match fault {
         BookFault::Long => format!(in alloc;
-            "{file}: {fault}; `save` writes none that is longer: split the runs by employee into several books"
+            "{name}: {fault}; `save` writes none that is longer: split the runs by employee into several books"
         ),
-        BookFault::Form { item: 1 } => format!(in alloc;
-            "{file}: {fault}; a saved book begins with the line `papbook 1`, and an empty file is left where `save` wrote to the very file that its script opens"
-        ),
-        BookFault::Form { .. } => format!(in alloc;
-            "{file}: {fault}; items are counted from 1: the first three lines, each plan with its texts, the line `runs N`, each run, and the last line with nothing after it"
-        ),
+        BookFault::Form { item } => form_words(alloc, file, *item),
         BookFault::Plan { .. } => format!(in alloc;
-            "{file}: {fault}; its texts stand behind its line, and `papcalc check` on them says why"
+            "{name}: {fault}; its texts stand behind its line, and `papcalc check` on them says why"
         ),
-        fault => format!(in alloc; "{file}: {fault}"),
+        fault => format!(in alloc; "{name}: {fault}"),
     }
+}
+
+/// What is wrong with an item of a saved book, with the line at which it would begin, and what helps. The text is read once more
+/// for that line.
+fn form_words(alloc: Global, file: TextFile<'_>, item: u32) -> Result<String, AllocError> {
+    let name = file.name;
+    let at = match read_items(alloc, file.bytes) {
+        Err(ItemFault::Form { at, .. }) => at,
+        Err(ItemFault::Memory(error)) => return Err(error),
+        Ok(_) => return format!(in alloc; "{name}: item {item} is not of its form"),
+    };
+    let place = position(file.bytes, at);
+    if item == 1 {
+        return format!(in alloc;
+            "{name}:{place}: item 1 is not of its form; a saved book begins with the line `papbook 1`, and an empty file is left where `save` wrote to the very file that its script opens"
+        );
+    }
+    if at >= file.bytes.len() {
+        return format!(in alloc;
+            "{name}:{place}: the text ends before item {item}; it was cut off: write or copy the book again"
+        );
+    }
+    format!(in alloc;
+        "{name}:{place}: item {item} is not of its form, or the text ends within it; items are counted from 1: the first three lines, each plan with its texts, the line `runs N`, each run, and the last line with nothing after it"
+    )
 }
 
 /// The group, the name and the details of a line's refusal.

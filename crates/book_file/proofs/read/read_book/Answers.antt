@@ -1,6 +1,5 @@
 use Rattle.std.proofs.Common.{Ok, arith, map, subst}
 use Rattle.std.proofs.lemmas.Result.{err_from_is_err_and}
-use Rattle.saved_items.specs.Texts.{Stop}
 use Rattle.saved_items.specs.ItemFaults.{IsItemFaultOrMemory, plan_in, saved_in}
 use Rattle.book_year.specs.Accepted.{plans_in}
 use Rattle.recalc_engine.specs.declared.book.RestoredBook.{RestoredBook}
@@ -13,13 +12,12 @@ use Rattle.book_file.proofs.read.read_book.Goals as goal
 pub returns-in_err-accept_plans-in-Err-Form-clause-refused :
     goal.returns-in_err-accept_plans-in-Err-Form-clause-refused
 returns-in_err-accept_plans-in-Err-Form-clause-refused g c =
-    let stop : Stop = record { item = c.in-Err-Form.item; plans = map plan_in c.in-Err-Form.plans.items } in
     let p = err_from_is_err_and c.from_residual.result c.from_residual.ensures.1 in
     let stops = subst (IsItemFaultOrMemory c.args.bytes.now) c.in-Err-Form.field-0-is c.in-Err-Form.ensures.err in
     let given = c.in_err-accept_plans-in-Err-Form.field-0.0 in
     let no_plan = subst (λ t. HasNoPlan (map plan_in t) given) c.deref.ensures.value c.in_err-accept_plans-in-Err-Form.ensures.refused in
     err_holds c.from_residual.result (IsBookFaultOrMemory c.args.bytes.now) p.0 given p.1 p.2
-    (unread_broken c.args.bytes.now (omega (arith, c.if-bytes-gt-MOST_BOOK_TEXT.false)) stop given stops no_plan)
+    (unread_broken c.args.bytes.now (omega (arith, c.if-bytes-gt-MOST_BOOK_TEXT.false)) _ given stops no_plan)
 
 pub returns-in-Ok-clause-read : goal.returns-in-Ok-clause-read
 returns-in-Ok-clause-read g c =
@@ -45,8 +43,7 @@ returns-in-Ok-clause-counted g c =
 pub returns-in_ok-accept_plans-in-Err-Form-clause-refused :
     goal.returns-in_ok-accept_plans-in-Err-Form-clause-refused
 returns-in_ok-accept_plans-in-Err-Form-clause-refused g c =
-    let stop : Stop = record { item = c.in-Err-Form.item; plans = map plan_in c.in-Err-Form.plans.items } in
     let stops = subst (IsItemFaultOrMemory c.args.bytes.now) c.in-Err-Form.field-0-is c.in-Err-Form.ensures.err in
     let es = plans_in c.in_ok-accept_plans-in-Err-Form.field-0 in
-    breaks c.args.bytes.now (omega (arith, c.if-bytes-gt-MOST_BOOK_TEXT.false)) stop es stops
+    breaks c.args.bytes.now (omega (arith, c.if-bytes-gt-MOST_BOOK_TEXT.false)) _ es stops
     (subst (λ t. AreEntriesOf (map plan_in t) es) c.deref.ensures.value c.in_ok-accept_plans-in-Err-Form.ensures.ok)

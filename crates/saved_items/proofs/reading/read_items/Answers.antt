@@ -1,4 +1,4 @@
-use Rattle.std.proofs.Common.{◌+◌, length, sym, ap, arith, length-append}
+use Rattle.std.proofs.Common.{◌+◌, length, refl, sym, ap, arith, length-append}
 use Rattle.saved_items.specs.private.ItemViews.{front_in, item_in}
 use Rattle.saved_items.specs.private.ItemDecisions.{item_text}
 use Rattle.saved_items.specs.ItemFaults.{saved_in}
@@ -36,4 +36,4 @@ returns-clause-err c =
     let none = rw c.in_default.is at c.in_ok-item.ensures in
     stops_as c.args.bytes.now (front_in c.loop-front.front) c.loop-front.rest.now h.sound h.text
     (λ g. none g.item g.rest g.fits g.text)
-    _ _ (ap (λ n. n + 1) c.item_count.ensures.count) (sym h.known.plans) c.if-is_end.ensures
+    _ _ _ (ap (λ n. n + 1) c.item_count.ensures.count) refl (sym h.known.plans) c.if-is_end.ensures
