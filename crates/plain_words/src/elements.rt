@@ -4,6 +4,7 @@ ghost use Rattle.plain_words.specs.Places.{in_plan};
 ghost use Rattle.plain_words.specs.Refusals.{IsPlaceOfFault, IsPlaceOfExcess};
 ghost use Rattle.plain_words.specs.private.FoundViews.{place_of, HasTag, IsExcessByte};
 
+use crate::encoding::is_utf16;
 use crate::found::Found;
 use crate::place::TextFile;
 use crate::quotes::write_quoted;
@@ -98,7 +99,9 @@ fn text_help(text: &[u8]) -> Option<&'static str> {
         )
     } else if text.starts_with(b"<") {
         None
-    } else if text.starts_with(b"[input") || text.starts_with(b"[bind") {
+    } else if is_utf16(text) {
+        Some("the file is written in UTF-16, it seems; save it in UTF-8")
+    } else if text.starts_with(b"[input") || text.starts_with(b"[bind") || text.starts_with(b"#") {
         Some(
             "this is a range file, it seems; the flowchart's file comes first, then its range file",
         )

@@ -5,13 +5,13 @@ ghost use Rattle.plain_words.specs.private.FoundViews.{IsOfPlan};
 use crate::found::{CHANGED, Found};
 use crate::help::expression_help;
 use crate::nodes::is_read;
-use crate::operands::token_from;
 use crate::quotes::{token_at, write_quoted, write_token};
 use crate::sites::{
     DeclaredSite, Source, declaration_of, literal_byte, statement_byte, statement_of,
     write_statement,
 };
 use crate::statements::statement_text;
+use crate::tokens::token_from;
 use expr_tokens::{Keyword, Sign, Token};
 use pap_expr::{ExprFault, parse_constant};
 use pap_plan::Spot;

@@ -4,7 +4,6 @@ ghost use Rattle.plain_words.specs.private.FoundViews.{IsOfPlan};
 
 use crate::found::Found;
 use crate::nodes::write_node;
-use crate::operands::name_byte;
 use crate::place::place_text;
 use crate::quotes::write_quoted;
 use crate::sites::{
@@ -12,6 +11,7 @@ use crate::sites::{
     write_statement,
 };
 use crate::statements::statement_text;
+use crate::tokens::name_byte;
 use pap_tree::{Kind, Name, Place, is_white};
 use pap_types::TypeFault;
 use std::alloc::AllocError;

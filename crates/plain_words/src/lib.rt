@@ -3,6 +3,7 @@
 
 mod counting;
 mod elements;
+mod encoding;
 mod expressions;
 mod found;
 mod group;
@@ -11,7 +12,6 @@ mod kinds;
 mod lines;
 mod methods;
 mod nodes;
-mod operands;
 mod ordinal;
 mod place;
 mod plan;
@@ -26,6 +26,7 @@ mod statements;
 mod table;
 mod table_row;
 mod tags;
+mod tokens;
 
 pub use counting::position;
 pub use lines::one_line;

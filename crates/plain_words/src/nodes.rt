@@ -1,9 +1,7 @@
 //! The nodes of a statement's expression by their numbers.
-use crate::operands::operand_byte;
 use crate::quotes::write_quoted;
 use crate::sites::{Source, declaration_of, statement_of, write_statement};
-use crate::statements::statement_text;
-use pap_expr::{ExprFault, parse_assign, parse_expr};
+use pap_expr::{ExprFault, Stretch, parse_assign_placed, parse_expr_placed};
 use pap_reader::RawStmt;
 use pap_tree::{Binary, Call, Expr, Kind, Name, Place, Unary, find_node, print_expr};
 use std::alloc::{AllocError, Global};
@@ -11,7 +9,7 @@ use std::alloc::{AllocError, Global};
 /// What is said of a node of an expression.
 #[derive(Clone, Copy)]
 pub(crate) struct Node {
-    /// The byte of the statement's text at which its first operand stands.
+    /// The byte of the statement's text at which it begins.
     pub at: usize,
     /// Which operands it takes, where the node is known.
     pub takes: &'static str,
@@ -26,6 +24,15 @@ enum Role {
     Value(Name),
     /// The test of an IF.
     Test,
+}
+
+/// The expression of a statement.
+#[derive(Drop)]
+struct ReadExpression {
+    role: Role,
+    expression: Expr,
+    /// The bytes of its nodes in the statement's text, by number.
+    nodes: Vec<Stretch>,
 }
 
 /// Appends where a node stands: its canonical spelling, and its statement.
@@ -56,53 +63,52 @@ fn write_spelling(
     number: u32,
 ) -> Result<Option<Node>, AllocError> {
     let alloc = *out.allocator();
-    let Some((role, expression)) = expression_of(alloc, statement)? else {
+    let Some(read) = expression_of(alloc, statement)? else {
         return Ok(None);
     };
-    let Some(node) = find_node(&expression, number) else {
+    let Some(node) = find_node(&read.expression, number) else {
         return Ok(None);
     };
     out.push_str(", at ")?;
     write_quoted(out, &print_expr(alloc, node)?, 0)?;
-    let is_part = find_node(&expression, number.saturating_add(1)).is_some();
-    let text = statement_text(statement);
-    let at = operand_byte(alloc, text, tokens_before(role), &expression, number)?;
+    let is_part = find_node(&read.expression, number.saturating_add(1)).is_some();
+    let stretch = read.nodes.get(number as usize);
     Ok(Some(Node {
-        at: at.unwrap_or(0),
+        at: stretch.map(|bytes| bytes.first).unwrap_or(0),
         takes: taken_kinds(node),
         also: if is_part {
             ""
         } else {
-            whole_words(source, role)
+            whole_words(source, read.role)
         },
     }))
 }
 
-/// The expression of a statement with its role, where it has one and it is read.
-fn expression_of(alloc: Global, statement: &RawStmt) -> Result<Option<(Role, Expr)>, AllocError> {
+/// The expression of a statement, where it has one and it is read.
+fn expression_of(alloc: Global, statement: &RawStmt) -> Result<Option<ReadExpression>, AllocError> {
     let read = match statement {
-        RawStmt::Eval { exec } => match parse_assign(alloc, exec) {
-            Ok((target, value)) => Ok((Role::Value(target), value)),
+        RawStmt::Eval { exec } => match parse_assign_placed(alloc, exec) {
+            Ok((target, expression, nodes)) => Ok(ReadExpression {
+                role: Role::Value(target),
+                expression,
+                nodes,
+            }),
             Err(fault) => Err(fault),
         },
-        RawStmt::If { test, .. } => match parse_expr(alloc, test) {
-            Ok(test) => Ok((Role::Test, test)),
+        RawStmt::If { test, .. } => match parse_expr_placed(alloc, test) {
+            Ok((expression, nodes)) => Ok(ReadExpression {
+                role: Role::Test,
+                expression,
+                nodes,
+            }),
             Err(fault) => Err(fault),
         },
         RawStmt::Execute { .. } => return Ok(None),
     };
     match read {
-        Ok(expression) => Ok(Some(expression)),
+        Ok(read) => Ok(Some(read)),
         Err(ExprFault::Memory) => Err(AllocError),
         Err(_) => Ok(None),
-    }
-}
-
-/// How many tokens stand before the expression of this role: an assignment's target and its `=`.
-fn tokens_before(role: Role) -> usize {
-    match role {
-        Role::Value(_) => 2,
-        Role::Test => 0,
     }
 }
 

@@ -5,6 +5,7 @@ ghost use Rattle.plain_words.specs.Refusals.{IsPlaceOfLimits};
 ghost use Rattle.plain_words.specs.private.FoundViews.{place_of, IsOfPlan, IsOfRanges};
 ghost use Rattle.plain_words.specs.private.SiteViews.{declares_input};
 
+use crate::encoding::is_utf16;
 use crate::found::Found;
 use crate::place::TextFile;
 use crate::section::{SECTIONS, Section, entry_byte, section_byte};
@@ -218,6 +219,9 @@ fn find_toml(limits: TextFile<'_>, told: &mut String) -> Result<Found, AllocErro
             };
             let message = error.message();
             write!(told, ": {message}")?;
+            if is_utf16(limits.bytes) {
+                told.push_str(", since it is written in UTF-16")?;
+            }
             if limits.bytes.starts_with(b"<") {
                 told.push_str(", and it begins as a flowchart's file does, which comes first")?;
             }

@@ -3,6 +3,7 @@ ghost use Rattle.std.specs.Prelude.{IfOk};
 ghost use Rattle.std.specs.String.{string_bytes};
 ghost use Rattle.plain_words.specs.Lines.{IsOneLine};
 
+use crate::encoding::is_utf16;
 use crate::lines::one_line;
 use crate::place::TextFile;
 use crate::position;
@@ -151,7 +152,7 @@ fn write_repeat(
 
 /// Appends what is wrong with the first row, and what helps.
 fn write_header_fault(told: &mut String, table: &[u8]) -> Result<(), AllocError> {
-    if table.starts_with(&[0xFF, 0xFE]) || table.starts_with(&[0xFE, 0xFF]) {
+    if is_utf16(table) {
         return told.push_str(": the table is written in UTF-16; save it as CSV in UTF-8");
     }
     let Some(header) = find_row(*told.allocator(), table, 0)? else {
