@@ -1,12 +1,18 @@
 -- How the lines of a script grow with its bytes.
-use Rattle.std.proofs.Common.{◌≡◌, List, [], ◌∷◌, ◌++◌, ℕ, ◌==◌, Bool, true, false, cond, length, refl, sym, ap, ◌∙◌, subst, append_assoc, arith, ◌<◌}
-use Rattle.std.specs.Prelude.{if◌then◌else◌}
+use Rattle.std.proofs.Common.{◌≡◌, List, [], ◌∷◌, ◌++◌, ℕ, ◌==◌, Bool, true, false, suc, ◌+◌, cond, length, length-take, take, drop, get_or, refl, sym, ap, ◌∙◌, subst, append_assoc, arith, ◌<◌}
+use Rattle.std.specs.Prelude.{if◌then◌else◌, Some}
 use Rattle.std.specs.List.{slice_split, onto_first}
 use Rattle.std.specs.Str.Lines.{lines_of_parts, strip_carriage_return}
-use Rattle.std.proofs.lemmas.List.{append-nil}
+use Rattle.std.proofs.lemmas.List.{append-nil, get_or-take, take-append-drop, take_more}
 use Rattle.std.proofs.lemmas.Bool.Decides.{nat_tests}
+use Rattle.memchr.specs.Find.{IsFirstByte, is_byte}
 use Rattle.script_run.specs.Transcripts.{lines_of, ended_parts, ended_lines}
+use Rattle.script_run.specs.private.OpenLines.{HasNoLf}
 use Rattle.script_run.specs.private.RunViews.{last_part, open_line}
+
+fails : (b : Bool) → ¬ (b ≡ true) → b ≡ false
+fails true h = absurd (h refl)
+fails false h = refl
 
 same_byte : (c : ℕ) → (c == 10) ≡ true → c ≡ 10
 same_byte c test = grind (arith, nat_tests)
@@ -152,6 +158,52 @@ open_line-other bytes c other =
     ap (λ v. last_part v) (parts-other bytes c other) ∙ ap (λ v. last_part (onto_last c v)) some.is
     ∙ last_part-onto c some.first some.others
     ∙ ap (λ v. last_part v ++ c ∷ []) (sym some.is)
+
+no_lf_first : (b : ℕ) (more : List ℕ) → HasNoLf (b ∷ more) → (b == 10) ≡ false
+no_lf_first b more none = fails (b == 10) (none 0 (omega arith) (omega arith))
+
+no_lf_rest : (b : ℕ) (more : List ℕ) → HasNoLf (b ∷ more) → HasNoLf more
+no_lf_rest b more none = λ k low lt. none (suc k) (omega arith) (omega (arith, lt))
+
+-- bytes without an LF go onto it
+pub ended_lines-others : (bytes more : List ℕ) → HasNoLf more → ended_lines (bytes ++ more) ≡ ended_lines bytes
+ended_lines-others bytes [] none = ap (λ v. ended_lines v) (append-nil bytes)
+ended_lines-others bytes (b ∷ more) none =
+    ap (λ v. ended_lines v) (sym (append_assoc bytes (b ∷ []) more))
+    ∙ ended_lines-others (bytes ++ b ∷ []) more (no_lf_rest b more none)
+    ∙ ended_lines-other bytes b (no_lf_first b more none)
+
+pub open_line-others : (bytes more : List ℕ) → HasNoLf more → open_line (bytes ++ more) ≡ open_line bytes ++ more
+open_line-others bytes [] none = ap (λ v. open_line v) (append-nil bytes) ∙ sym (append-nil (open_line bytes))
+open_line-others bytes (b ∷ more) none =
+    ap (λ v. open_line v) (sym (append_assoc bytes (b ∷ []) more))
+    ∙ open_line-others (bytes ++ b ∷ []) more (no_lf_rest b more none)
+    ∙ ap (λ v. v ++ more) (open_line-other bytes b (no_lf_first b more none))
+    ∙ append_assoc (open_line bytes) (b ∷ []) more
+
+-- such bytes and an LF end it
+pub ended_lines-line : (bytes last : List ℕ) → HasNoLf last → ended_lines (bytes ++ (last ++ 10 ∷ []))
+    ≡ ended_lines bytes ++ strip_carriage_return (open_line bytes ++ last) ∷ []
+ended_lines-line bytes last none =
+    ap (λ v. ended_lines v) (sym (append_assoc bytes last (10 ∷ []))) ∙ ended_lines-lf (bytes ++ last)
+    ∙ ap (λ v. v ++ strip_carriage_return (open_line (bytes ++ last)) ∷ []) (ended_lines-others bytes last none)
+    ∙ ap (λ v. ended_lines bytes ++ strip_carriage_return v ∷ []) (open_line-others bytes last none)
+
+pub open_line-line : (bytes last : List ℕ) → open_line (bytes ++ (last ++ 10 ∷ [])) ≡ []
+open_line-line bytes last =
+    ap (λ v. open_line v) (sym (append_assoc bytes last (10 ∷ []))) ∙ open_line-lf (bytes ++ last)
+
+-- the first LF of some bytes, and what stands before it
+pub before_lf : (bytes : List ℕ) (at : ℕ) → IsFirstByte (is_byte 10) bytes (Some at) → HasNoLf (take at bytes)
+before_lf bytes at found = λ k low lt passes.
+    let before : k < at = omega (arith, lt, length-take at bytes) in
+    found.0.before k low before (subst (λ v. (v == 10) ≡ true) (get_or-take at bytes k 0 before) passes)
+
+pub around_lf : (bytes : List ℕ) (at : ℕ) → IsFirstByte (is_byte 10) bytes (Some at) →
+    bytes ≡ (take at bytes ++ 10 ∷ []) ++ drop (at + 1) bytes
+around_lf bytes at found =
+    sym (take-append-drop (at + 1) bytes) ∙ ap (λ v. v ++ drop (at + 1) bytes) (take_more bytes at 0 found.0.high)
+    ∙ ap (λ v. (take at bytes ++ v ∷ []) ++ drop (at + 1) bytes) (same_byte (get_or bytes at 0) found.1)
 
 -- the lines of a script are those that an LF ends, and a last one
 pub lines_of-parts : (script : List ℕ) → lines_of script ≡ ended_lines script ++ last_lines (open_line script)

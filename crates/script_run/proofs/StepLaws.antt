@@ -1,10 +1,10 @@
 -- How a run goes on over a script's bytes, and what a stop leaves.
-use Rattle.std.proofs.Common.{◌≡◌, ◌≢◌, List, [], ◌∷◌, ◌++◌, ℕ, ◌+◌, ◌-◌, ◌≤◌, ◌<◌, ◌==◌, Bool, false, ◌||◌, length, take, drop, get_or, Option, refl, sym, ap, ◌∙◌, subst, append_assoc, arith, inl, inr, length-append}
+use Rattle.std.proofs.Common.{◌≡◌, ◌≢◌, List, [], ◌∷◌, ◌++◌, ℕ, ◌+◌, ◌-◌, ◌≤◌, ◌<◌, Bool, ◌||◌, length, take, drop, Option, refl, sym, ap, ◌∙◌, subst, append_assoc, arith, inl, inr, length-append}
 use Rattle.std.specs.Prelude.{Result, Ok, Err, Some, None, Vec, ⊤}
 use Rattle.std.specs.declared.alloc.Global.{Global}
 use Rattle.std.specs.Option.{ForSome}
 use Rattle.std.specs.Str.Lines.{strip_carriage_return}
-use Rattle.std.proofs.lemmas.List.{append-nil, take-append-drop, take_more, take_all}
+use Rattle.std.proofs.lemmas.List.{append-nil, take-append-drop}
 use Rattle.outside.specs.Told.{FileMap, Appends}
 use Rattle.outside.proofs.Laws.{Appends-then, Appends-nothing}
 use Rattle.script_steps.specs.Steps.{Standing, Answer, Names, IsStep}
@@ -15,21 +15,22 @@ use Rattle.script_steps.specs.declared.stop.LineStop.TheVariants.{File, Write, M
 use Rattle.script_steps.proofs.Laws as step
 use Rattle.script_run.specs.Transcripts.{Session, refusal_of, lines_of, ended_lines, IsSession, IsTranscript}
 use Rattle.script_run.specs.Stops.{stop_of}
-use Rattle.script_steps.specs.Shown.{OutsideShown, shown}
-use Rattle.script_run.specs.private.RunClauses.{told_by, without_notes, EndsAt, KeepsRefusals}
+use Rattle.script_steps.specs.Shown.{OutsideShown}
+use Rattle.script_run.specs.private.RunClauses.{without_notes, EndsAt, KeepsRefusals}
 use Rattle.script_run.specs.RunClauses.{IsFrontOfSession, IsAtLine, RunLeaves}
-use Rattle.script_run.specs.private.RunViews.{Follow, empty_session, with_answer, open_line, Holds, IsSameSoFar, IsAtStart, Keeps}
+use Rattle.script_run.specs.private.OpenLines.{HasNoLf, Holds, SaysSame}
+use Rattle.script_run.specs.private.RunViews.{Follow, empty_session, with_answer, open_line, IsAtStart, Keeps}
 use Rattle.script_run.specs.private.RunViews.{IsDelivered, Stands, GoesOn, Breaks, Closes, ClosesAt, stopped_at, last_result}
 use Rattle.script_run.specs.declared.stop.Stop.TheVariants as stops
+use Rattle.script_run.specs.declared.open_line.OpenLine.{OpenLine}
 use Rattle.script_run.specs.declared.reading.Reading.{Reading}
 use Rattle.script_run.specs.LineCounts.{AreCounted, counts_one}
-use Rattle.script_run.specs.Notes.{IsToldOf, NotesShown, RunShown, with_notes}
+use Rattle.script_run.specs.Notes.{IsToldOf, RunShown}
 use Rattle.script_run.specs.private.LineCounts.{Notes, noted}
 use Rattle.script_run.specs.declared.line_counts.LineCounts.{LineCounts}
 use Rattle.script_run.proofs.Laws.{FollowToHalt, Follow-next, Follow-grows, Follow-there, FollowToHalt-rest, FollowToHalt-whole}
 use Rattle.script_run.proofs.Laws.{answered_of, session_of_totals, totals_of_session}
-use Rattle.script_run.proofs.LineLaws.{ended_lines-lf, open_line-lf, ended_lines-other, open_line-other, Begins, lines_of-append, lines_of-parts, last_lines, last_lines-some, last_lines-none}
-use Rattle.script_run.proofs.KeepingLaws.{SaysSame}
+use Rattle.script_run.proofs.LineLaws.{ended_lines-others, open_line-others, ended_lines-line, open_line-line, Begins, lines_of-append, lines_of-parts, last_lines, last_lines-some, last_lines-none}
 use Rattle.script_run.proofs.ToldLaws.{tells_none, tells_noted, told_more, told_nothing}
 
 -- what is kept of a line is answered as the line
@@ -138,16 +139,17 @@ stands_first before reading first = record {
   same = refl;
   appended = Appends-nothing before.written;
   counted = omega arith;
-  held = record { front = first.line; long = first.long };
+  held = first.line;
   kept = first.refusals;
   told = told_nothing before.notes first.counts;
   answered = λ files e. session_same refl (tells_none first.counts) (omega arith) first.script;
 }
 
--- a byte that ends no line
-pub push_on : {old : RunShown} {was is : Reading} (b : ℕ) → (b == 10) ≡ false → ((line : List ℕ) → Holds was line →
-    Holds is (line ++ b ∷ [])) → IsSameSoFar was is → GoesOn old old was is (b ∷ [])
-push_on {old = old} {was = was} {is = is} b other held same = record {
+-- bytes that end no line
+pub keep_on : {old : RunShown} {was is : Reading} (more : List ℕ) → HasNoLf more →
+    ((line : List ℕ) → Holds was.line line → Holds is.line (line ++ more)) →
+    is ≡ record was { line = is.line } → GoesOn old old was is more
+keep_on {old = old} {was = was} {is = is} more none held same = record {
   on = λ before bytes stands. record {
     out = stands.out;
     refusals = stands.refusals;
@@ -156,10 +158,10 @@ push_on {old = old} {was = was} {is = is} b other held same = record {
     same = stands.same;
     appended = stands.appended;
     counted = stands.counted;
-    held = subst (λ v. Holds is v) (sym (open_line-other bytes b other)) (held (open_line bytes) stands.held);
-    kept = subst (λ v. KeepsRefusals v stands.refusals) (sym same.refusals) stands.kept;
-    told = subst (λ v. IsToldOf stands.lines stands.refused_lines
-        (record { counts = v; before = before.notes; after = old.notes })) (sym same.counts) stands.told;
+    held = subst (λ v. Holds is.line v) (sym (open_line-others bytes more none)) (held (open_line bytes) stands.held);
+    kept = subst (λ (v : Reading). KeepsRefusals v.refusals stands.refusals) (sym same) stands.kept;
+    told = subst (λ (v : Reading). IsToldOf stands.lines stands.refused_lines
+        (record { counts = v.counts; before = before.notes; after = old.notes })) (sym same) stands.told;
     answered = λ files e.
         subst (λ v. Follow files empty_session v (record {
           text = stands.out;
@@ -169,44 +171,21 @@ push_on {old = old} {was = was} {is = is} b other held same = record {
           refused_lines = stands.refused_lines;
           steps = old.steps - before.steps;
           standing = is.script;
-        })) (sym (ended_lines-other bytes b other))
-        (subst (λ v. Follow files empty_session (ended_lines bytes) v) (session_same refl (ap (λ v. counts_one v) (sym same.counts)) refl
-        (sym same.script)) (stands.answered files e));
+        })) (sym (ended_lines-others bytes more none))
+        (subst (λ v. Follow files empty_session (ended_lines bytes) v) (session_same refl
+        (ap (λ (v : Reading). counts_one v.counts) (sym same)) refl (ap (λ (v : Reading). v.script) (sym same))) (stands.answered files e));
   };
 }
 
--- what is shown, of these parts
-abbrev pub shown_notes : Option FileMap → Option (List ℕ) → Option (List ℕ) → ℕ → NotesShown → RunShown
-shown_notes files failed written steps notes = with_notes (shown files failed written steps) notes
-
--- of the sink the same is shown, since refusals are kept or not as before
-pub goes_told : (files : Option FileMap) (failed w : Option (List ℕ)) (steps : ℕ) (notes : NotesShown) (was is : Reading)
-    (more : List ℕ) → is.refusals ≡ was.refusals →
-    GoesOn (shown_notes files failed (told_by was.refusals w) steps notes)
-    (shown_notes files failed (told_by was.refusals w) steps notes) was is more →
-    GoesOn (shown_notes files failed (told_by was.refusals w) steps notes)
-    (shown_notes files failed (told_by is.refusals w) steps notes) was is more
-goes_told files failed w steps notes was is more same goes =
-    subst (λ r. GoesOn (shown_notes files failed (told_by was.refusals w) steps notes)
-    (shown_notes files failed (told_by r w) steps notes) was is more) (sym same) goes
-
-pub breaks_told : (files : Option FileMap) (failed w : Option (List ℕ)) (steps : ℕ) (notes : NotesShown) (was is : Reading)
-    (told : LineCounts) (more : List ℕ) (stop : LineStop) → is.refusals ≡ was.refusals →
-    Breaks (shown_notes files failed (told_by was.refusals w) steps notes)
-    (shown_notes files failed (told_by was.refusals w) steps notes) was told more stop →
-    Breaks (shown_notes files failed (told_by was.refusals w) steps notes)
-    (shown_notes files failed (told_by is.refusals w) steps notes) was told more stop
-breaks_told files failed w steps notes was is told more stop same breaks =
-    subst (λ r. Breaks (shown_notes files failed (told_by was.refusals w) steps notes)
-    (shown_notes files failed (told_by r w) steps notes) was told more stop) (sym same) breaks
-
--- an LF, with the answer to its line
-pub line_on : {old new : RunShown} {was is : Reading} {refused : Bool} → new.files ≡ old.files →
-    ((line : List ℕ) → Holds was line →
+-- the last bytes of a line and an LF, with the answer to the line
+pub line_on : {old new : RunShown} {was is : Reading} {refused : Bool} (last : List ℕ) → HasNoLf last →
+    new.files ≡ old.files →
+    ((line : List ℕ) → Holds was.line line →
     IsDelivered (without_notes old) (without_notes new) was.script is.script was.refusals is.refusals
-    (strip_carriage_return line) refused) →
-    Holds is [] → Notes was.counts old.notes is.counts new.notes refused → GoesOn old new was is (10 ∷ [])
-line_on {old = old} {new = new} {was = was} {is = is} {refused = refused} same_files answers held notes = record {
+    (strip_carriage_return (line ++ last)) refused) →
+    Holds is.line [] → Notes was.counts old.notes is.counts new.notes refused →
+    GoesOn old new was is (last ++ 10 ∷ [])
+line_on {old = old} {new = new} {was = was} {is = is} {refused = refused} last none same_files answers held notes = record {
   on = λ before bytes stands.
       let delivered = answers (open_line bytes) stands.held in
       let answered = delivered.answered in
@@ -224,7 +203,7 @@ line_on {old = old} {new = new} {was = was} {is = is} {refused = refused} same_f
         appended = Appends-then before.written old.written new.written stands.out
             (answered.answer).text stands.appended answered.appended;
         counted = omega arith;
-        held = subst (λ v. Holds is v) (sym (open_line-lf bytes)) held;
+        held = subst (λ v. Holds is.line v) (sym (open_line-line bytes last)) held;
         kept = kept_more was.refusals is.refusals answered.answer stands.refusals delivered.kept stands.kept;
         told = told_more (stands.lines + 1) stands.refused_lines _ refused (answered.answer).refused answered.marked told;
         answered = λ files e.
@@ -236,12 +215,12 @@ line_on {old = old} {new = new} {was = was} {is = is} {refused = refused} same_f
               refused_lines = noted stands.refused_lines (stands.lines + 1) (answered.answer).refused;
               steps = new.steps - before.steps;
               standing = is.script;
-            })) (sym (ended_lines-lf bytes))
+            })) (sym (ended_lines-line bytes last none))
             (subst (λ v. Follow files empty_session (ended_lines bytes ++ strip_carriage_return
-            (open_line bytes) ∷ []) v) (session_same refl (ap (λ v. counts_one was.counts || v)
+            (open_line bytes ++ last) ∷ []) v) (session_same refl (ap (λ v. counts_one was.counts || v)
             (sym answered.marked) ∙ sym mark) steps refl)
             (Follow-next files empty_session _ (ended_lines bytes) (strip_carriage_return
-            (open_line bytes)) is.script answered.answer (stands.answered files e) (answered.is files (stands.same
+            (open_line bytes ++ last)) is.script answered.answer (stands.answered files e) (answered.is files (stands.same
             ∙ e))));
       };
 }
@@ -463,38 +442,40 @@ leaves_broken same place Memory broken unchanged silent stands =
       | inr part ↦ leaves_part place part stands
     ]
 
--- the line that an LF ends, right after it
-ended_place : (bytes rest : List ℕ) → IsAtLine 1 ((bytes ++ 10 ∷ []) ++ rest) (bytes ++ 10 ∷ []) (ended_lines bytes)
-    (strip_carriage_return (open_line bytes))
-ended_place bytes rest =
-    let begins = lines_of-append (bytes ++ 10 ∷ []) rest in
-    let line = strip_carriage_return (open_line bytes) in
+-- the line that these bytes and an LF end, right after it
+ended_place : (bytes last : List ℕ) → HasNoLf last → (rest : List ℕ) → IsAtLine (length (last ++ 10 ∷ []))
+    ((bytes ++ (last ++ 10 ∷ [])) ++ rest) (bytes ++ (last ++ 10 ∷ [])) (ended_lines bytes)
+    (strip_carriage_return (open_line bytes ++ last))
+ended_place bytes last none rest =
+    let taken = bytes ++ (last ++ 10 ∷ []) in
+    let begins = lines_of-append taken rest in
+    let line = strip_carriage_return (open_line bytes ++ last) in
+    let ended = ended_lines-line bytes last none in
     record {
       later = begins.more;
-      lines = begins.is ∙ ap (λ v. v ++ begins.more) (ended_lines-lf bytes) ∙ append_assoc (ended_lines bytes)
-          (line ∷ []) begins.more;
-      through = bytes ++ 10 ∷ [];
+      lines = begins.is ∙ ap (λ v. v ++ begins.more) ended ∙ append_assoc (ended_lines bytes) (line ∷ []) begins.more;
+      through = taken;
       ahead = [];
-      parts = sym (append-nil (bytes ++ 10 ∷ []));
-      through_lines = lines_of-parts (bytes ++ 10 ∷ []) ∙ ap (λ v. ended_lines (bytes ++ 10 ∷ []) ++ last_lines v)
-          (open_line-lf bytes)
-          ∙ append-nil (ended_lines (bytes ++ 10 ∷ [])) ∙ ended_lines-lf bytes;
-      ends = inl (record { front = bytes; is = refl });
+      parts = sym (append-nil taken);
+      through_lines = lines_of-parts taken ∙ ap (λ v. ended_lines taken ++ last_lines v) (open_line-line bytes last)
+          ∙ append-nil (ended_lines taken) ∙ ended;
+      ends = inl (record { front = bytes ++ last; is = sym (append_assoc bytes last (10 ∷ [])) });
       short = omega arith;
     }
 
--- a stop at the line that an LF ends, where a `?` passes it on
-pub breaks_line : {old new : RunShown} {was : Reading} {e stop : LineStop} {told : LineCounts} → e ≡ stop →
-    new.files ≡ old.files →
-    ((line : List ℕ) → Holds was line →
-    BreaksLine (without_notes old) (without_notes new) was.script (strip_carriage_return line) e) →
-    (e ≢ Memory → told ≡ was.counts) → (e ≢ Memory → new.notes ≡ old.notes) → Breaks old new was told (10 ∷ []) stop
-breaks_line {old = old} {new = new} {was = was} {e = e} {told = told} passed same broken unchanged silent =
-    let breaks : Breaks old new was told (10 ∷ []) e = record {
-      on = λ before bytes rest stands. leaves_broken same (ended_place bytes rest) e (broken
+-- a stop at such a line, where a `?` passes it on
+pub breaks_line : {old new : RunShown} {was : Reading} {e stop : LineStop} {told : LineCounts} (last : List ℕ) →
+    HasNoLf last → e ≡ stop → new.files ≡ old.files →
+    ((line : List ℕ) → Holds was.line line →
+    BreaksLine (without_notes old) (without_notes new) was.script (strip_carriage_return (line ++ last)) e) →
+    (e ≢ Memory → told ≡ was.counts) → (e ≢ Memory → new.notes ≡ old.notes) →
+    Breaks old new was told (last ++ 10 ∷ []) stop
+breaks_line {old = old} {new = new} {was = was} {e = e} {told = told} last none passed same broken unchanged silent =
+    let breaks : Breaks old new was told (last ++ 10 ∷ []) e = record {
+      on = λ before bytes rest stands. leaves_broken same (ended_place bytes last none rest) e (broken
           (open_line bytes) stands.held) unchanged silent stands;
     } in
-    subst (λ v. Breaks old new was told (10 ∷ []) v) passed breaks
+    subst (λ v. Breaks old new was told (last ++ 10 ∷ []) v) passed breaks
 
 -- want of memory before anything was done
 pub breaks_memory : {old : RunShown} {was : Reading} {stop : LineStop} {told : LineCounts} (more : List ℕ) →
@@ -542,7 +523,7 @@ goes_nowhere {old = old} {was = was} = record {
       (append-nil bytes)) stands;
 }
 
-goes_further : {old mid new : RunShown} {was half is : Reading} (front more : List ℕ) →
+pub goes_further : {old mid new : RunShown} {was half is : Reading} (front more : List ℕ) →
     GoesOn old mid was half front →
     GoesOn mid new half is more → GoesOn old new was is (front ++ more)
 goes_further {new = new} {is = is} front more p q = record {
@@ -550,17 +531,9 @@ goes_further {new = new} {is = is} front more p q = record {
       (bytes ++ front) (p.on before bytes stands));
 }
 
-pub goes_byte : {old mid new : RunShown} {was half is : Reading} (piece : List ℕ) (i : ℕ) → i < length piece →
-    GoesOn old mid was half (take i piece) → GoesOn mid new half is (get_or piece i 0 ∷ []) →
-    GoesOn old new was is (take (i + 1) piece)
-goes_byte {old = old} {new = new} {was = was} {is = is} piece i lt p q =
-    subst (λ v. GoesOn old new was is v) (sym (take_more piece i 0 lt)) (goes_further (take i piece)
-    (get_or piece i 0 ∷ []) p q)
-
-pub goes_all : {old new : RunShown} {was is : Reading} (piece : List ℕ) (i : ℕ) → length piece ≤ i →
-    GoesOn old new was is (take i piece) → GoesOn old new was is piece
-goes_all {old = old} {new = new} {was = was} {is = is} piece i le p = subst (λ v. GoesOn old new was is v)
-    (take_all i piece le) p
+pub goes_over : {old new : RunShown} {was is : Reading} (bytes piece : List ℕ) → bytes ≡ piece →
+    GoesOn old new was is bytes → GoesOn old new was is piece
+goes_over {old = old} {new = new} {was = was} {is = is} bytes piece same goes = subst (λ v. GoesOn old new was is v) same goes
 
 place_ahead : {most n : ℕ} {script taken line : List ℕ} {before : List (List ℕ)} (ahead : List ℕ) →
     most + length ahead ≤ n → IsAtLine most script taken before line → IsAtLine n script (taken ++ ahead) before line
@@ -634,9 +607,6 @@ leaves_ahead ahead fits Memory leaves = record {
   front = leaves.front;
   tells = tt;
 }
-
-pub at_byte : (xs : List ℕ) (i : ℕ) → i < length xs → xs ≡ (take i xs ++ get_or xs i 0 ∷ []) ++ drop (i + 1) xs
-at_byte xs i lt = sym (take-append-drop (i + 1) xs) ∙ ap (λ v. v ++ drop (i + 1) xs) (take_more xs i 0 lt)
 
 within_piece : (bytes front more later piece : List ℕ) → piece ≡ (front ++ more) ++ later →
     ((bytes ++ front) ++ more) ++ later ≡ bytes ++ piece
@@ -726,16 +696,16 @@ ends_whole {script = script} session kept refused answered are tells = λ files 
 }
 
 -- a script that ends with a line end has no other line
-no_last : {reading : Reading} (script : List ℕ) → ((line : List ℕ) → Holds reading line → length line ≡ 0) →
-    Holds reading (open_line script) → lines_of script ≡ ended_lines script
+no_last : {kept : OpenLine} (script : List ℕ) → ((line : List ℕ) → Holds kept line → length line ≡ 0) →
+    Holds kept (open_line script) → lines_of script ≡ ended_lines script
 no_last script none held =
     lines_of-parts script ∙ ap (λ v. ended_lines script ++ v) (last_lines-none (open_line script) (none
     (open_line script) held))
     ∙ append-nil (ended_lines script)
 
 -- one that doesn't has its last line
-one_last : {reading : Reading} (script : List ℕ) → ((line : List ℕ) → Holds reading line → 0 < length line) →
-    Holds reading (open_line script) → lines_of script ≡ ended_lines script ++ open_line script ∷ []
+one_last : {kept : OpenLine} (script : List ℕ) → ((line : List ℕ) → Holds kept line → 0 < length line) →
+    Holds kept (open_line script) → lines_of script ≡ ended_lines script ++ open_line script ∷ []
 one_last script some held =
     lines_of-parts script ∙ ap (λ v. ended_lines script ++ v) (last_lines-some (open_line script) (some
     (open_line script) held))
@@ -765,7 +735,7 @@ answered_none {before = before} {old = old} {was = was} all stands = λ files e.
     } in
     subst (λ v. Follow files empty_session v so_far) (sym all) (stands.answered files e)
 
-pub closes_none : {old : RunShown} {was : Reading} → ((line : List ℕ) → Holds was line → length line ≡ 0) →
+pub closes_none : {old : RunShown} {was : Reading} → ((line : List ℕ) → Holds was.line line → length line ≡ 0) →
     Closes old old was (Ok was.counts)
 closes_none {was = was} none = record {
   on = λ before script stands.
@@ -774,7 +744,7 @@ closes_none {was = was} none = record {
       (answered_none (no_last script none stands.held) stands);
 }
 
-pub stays_none : {old : RunShown} {was : Reading} → ((line : List ℕ) → Holds was line → length line ≡ 0) →
+pub stays_none : {old : RunShown} {was : Reading} → ((line : List ℕ) → Holds was.line line → length line ≡ 0) →
     ClosesAt old was was.script was.refusals was.counts
 stays_none {was = was} none = record {
   on = λ before script stands.
@@ -821,8 +791,8 @@ answered_on {before = before} {old = old} new {script = script} {was = was} {to 
 
 pub closes_on : {old new : RunShown} {was : Reading} {to : Standing} {kept : Option
     (Vec ℕ Global)} {refused : Bool} {told : LineCounts} → ((line : List ℕ) →
-    Holds was line → 0 < length line) →
-    ((line : List ℕ) → Holds was line →
+    Holds was.line line → 0 < length line) →
+    ((line : List ℕ) → Holds was.line line →
     IsDelivered (without_notes old) (without_notes new) was.script to was.refusals kept line refused) →
     Notes was.counts old.notes told new.notes refused → Closes old new was (Ok told)
 closes_on {old = old} {new = new} {was = was} {to = to} {refused = refused} {told = told} some answers notes = record {
@@ -843,8 +813,8 @@ closes_on {old = old} {new = new} {was = was} {to = to} {refused = refused} {tol
 
 pub stays_on : {old : RunShown} (new : RunShown) {was : Reading} {to : Standing} {kept : Option
     (Vec ℕ Global)} {refused : Bool} {told : LineCounts} → ((line : List ℕ) →
-    Holds was line → 0 < length line) →
-    ((line : List ℕ) → Holds was line →
+    Holds was.line line → 0 < length line) →
+    ((line : List ℕ) → Holds was.line line →
     IsDelivered (without_notes old) (without_notes new) was.script to was.refusals kept line refused) →
     Notes was.counts old.notes told new.notes refused → ClosesAt old was to kept told
 stays_on new {was = was} {kept = kept} {refused = refused} {told = told} some answers notes = record {
@@ -872,9 +842,9 @@ last_place script line all = record {
 
 -- a stop at the last line
 pub closes_broken : {old new : RunShown} {was : Reading} {told : LineCounts} → new.files ≡ old.files →
-    ((line : List ℕ) → Holds was line →
+    ((line : List ℕ) → Holds was.line line →
     0 < length line) → (stop : LineStop) →
-    ((line : List ℕ) → Holds was line → BreaksLine (without_notes old) (without_notes new) was.script line stop) →
+    ((line : List ℕ) → Holds was.line line → BreaksLine (without_notes old) (without_notes new) was.script line stop) →
     (stop ≢ Memory → told ≡ was.counts) → (stop ≢ Memory → new.notes ≡ old.notes) →
     Closes old new was (stopped_at (stop_of stop) told)
 closes_broken same some stop broken unchanged silent = record {

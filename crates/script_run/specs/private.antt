@@ -1,3 +1,4 @@
 pub mod LineCounts
+pub mod OpenLines
 pub mod RunClauses
 pub mod RunViews

@@ -4,6 +4,7 @@
 mod deliver;
 mod line_counts;
 mod memory;
+mod open_line;
 mod reading;
 mod sample;
 mod stop;

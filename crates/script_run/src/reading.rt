@@ -1,30 +1,28 @@
-//! A script's bytes, one by one, and its lines as they end.
-ghost use Rattle.std.specs.Prelude.{◌≡◌, ◌≢◌, if◌then◌else◌, List, ℕ, [], ◌∷◌, ◌++◌, Err, OnOk};
-ghost use Rattle.std.specs.Prelude.{is_some};
+//! A script's bytes, piece by piece, and its lines as they end.
+ghost use Rattle.std.specs.Prelude.{◌≡◌, ◌≢◌, [], ◌∷◌, ◌++◌, Err, OnOk, is_some};
 ghost use Rattle.std.specs.Result.{ForErr};
-ghost use Rattle.std.specs.Str.Lines.{strip_carriage_return};
 ghost use Rattle.outside.specs.Causes.{Caused};
 ghost use Rattle.script_steps.specs.Steps.{first_standing};
 ghost use Rattle.script_run.specs.private.RunClauses.{KeepsRefusals, beside};
-ghost use Rattle.script_run.specs.private.RunViews.{Holds, IsSameSoFar, IsAtStart};
+ghost use Rattle.script_run.specs.private.OpenLines.{HasNoLf};
+ghost use Rattle.script_run.specs.private.RunViews.{IsAtStart};
 ghost use Rattle.script_run.specs.private.RunViews.{GoesOn, Breaks, Closes, ClosesAt, last_result};
 
 use crate::deliver::deliver;
 use crate::line_counts::LineCounts;
+use crate::open_line::OpenLine;
+use memchr::memchr;
 use outside::{Files, Sink};
-use script_lang::MOST_LINE;
 use script_steps::{LineStop, Script};
-use std::alloc::{AllocError, Global};
+use std::alloc::Global;
 use std::sync::ledger::Ledger;
 use steps::Steps;
 
 /// What is kept of the line that is being read, and what the lines before it have made.
 #[derive(Drop)]
 pub(crate) struct Reading {
-    /// The line's bytes so far, at most one more than `MOST_LINE`.
-    pub(crate) line: Vec<u8>,
-    /// Whether the line has more bytes than these.
-    pub(crate) long: bool,
+    /// The line that is being read.
+    pub(crate) line: OpenLine,
     /// What the lines before it have made.
     pub(crate) script: Script,
     /// How many lines were answered and refused.
@@ -41,95 +39,51 @@ impl Reading {
         ensures kept { result.refusals ≡ refusals }
     {
         Reading {
-            line: Vec::new(alloc),
-            long: false,
+            line: OpenLine::new(alloc),
             script: Script::new(alloc),
             counts: LineCounts::new(),
             refusals,
         }
     }
 
-    /// One more byte of the line that is being read.
-    fn push(&mut self, byte: u8) -> Result<(), AllocError>
-        ensures ok { OnOk result ((line : List ℕ) → Holds self.old line
-            → Holds self.new (line ++ byte ∷ [])) }
-        ensures same { IsSameSoFar self.old self.new }
-    {
-        if self.line.len() <= MOST_LINE {
-            self.line.push(byte)?;
-        } else {
-            self.long = true;
-        }
-        Ok(())
-    }
-
-    /// Answers the line that an LF ends, and puts to the notes why it is refused, where it is. The next line begins.
+    /// Answers the line that ends with these bytes and an LF, and puts to the notes why it is refused, where it is. The next line
+    /// begins.
     fn end_line<F: Files, W: Sink, N: Sink, L: Ledger>(
         &mut self,
         alloc: Global,
+        last: &[u8],
         files: &mut F,
         sink: &mut W,
         notes: &mut N,
         steps: &mut Steps<L>,
     ) -> Result<(), LineStop>
+        requires { HasNoLf last.now }
         ensures ok { OnOk result (GoesOn
             (beside self.old.refusals F.Files W.Sink N.Sink files.old sink.old notes.old steps.old)
             (beside self.new.refusals F.Files W.Sink N.Sink files.new sink.new notes.new steps.new)
-            self.old self.new (10 ∷ [])) }
+            self.old self.new (last.now ++ 10 ∷ [])) }
         ensures err { ForErr result (λ stop. Breaks
             (beside self.old.refusals F.Files W.Sink N.Sink files.old sink.old notes.old steps.old)
             (beside self.new.refusals F.Files W.Sink N.Sink files.new sink.new notes.new steps.new)
-            self.old self.new.counts (10 ∷ []) stop) }
+            self.old self.new.counts (last.now ++ 10 ∷ []) stop) }
         ensures mode { is_some self.new.refusals ≡ is_some self.old.refusals }
         ensures same { F.told files.new ≡ F.told files.old }
         ensures kept { result ≢ Err LineStop.File → F.failed files.new ≡ F.failed files.old }
         ensures file { Caused LineStop.File (F.faults files.old) (F.faults files.new) result }
         ensures write { Caused LineStop.Write (W.faults sink.old) (W.faults sink.new) result }
     {
-        let line = ended(&self.line, self.long);
+        self.line.keep_end(last)?;
         let wrong = deliver(
             alloc,
             &mut self.refusals,
             &mut self.script,
-            line,
+            self.line.ended(last),
             files,
             sink,
             steps,
         )?;
         self.counts.note(alloc, notes, wrong)?;
         self.line.clear();
-        self.long = false;
-        Ok(())
-    }
-
-    /// Takes one more byte of the script, and answers the line that it ends.
-    fn take_byte<F: Files, W: Sink, N: Sink, L: Ledger>(
-        &mut self,
-        alloc: Global,
-        byte: u8,
-        files: &mut F,
-        sink: &mut W,
-        notes: &mut N,
-        steps: &mut Steps<L>,
-    ) -> Result<(), LineStop>
-        ensures ok { OnOk result (GoesOn
-            (beside self.old.refusals F.Files W.Sink N.Sink files.old sink.old notes.old steps.old)
-            (beside self.new.refusals F.Files W.Sink N.Sink files.new sink.new notes.new steps.new)
-            self.old self.new (byte ∷ [])) }
-        ensures err { ForErr result (λ stop. Breaks
-            (beside self.old.refusals F.Files W.Sink N.Sink files.old sink.old notes.old steps.old)
-            (beside self.new.refusals F.Files W.Sink N.Sink files.new sink.new notes.new steps.new)
-            self.old self.new.counts (byte ∷ []) stop) }
-        ensures mode { is_some self.new.refusals ≡ is_some self.old.refusals }
-        ensures same { F.told files.new ≡ F.told files.old }
-        ensures kept { result ≢ Err LineStop.File → F.failed files.new ≡ F.failed files.old }
-        ensures file { Caused LineStop.File (F.faults files.old) (F.faults files.new) result }
-        ensures write { Caused LineStop.Write (W.faults sink.old) (W.faults sink.new) result }
-    {
-        if byte == b'\n' {
-            return self.end_line(alloc, files, sink, notes, steps);
-        }
-        self.push(byte)?;
         Ok(())
     }
 
@@ -157,9 +111,12 @@ impl Reading {
         ensures file { Caused LineStop.File (F.faults files.old) (F.faults files.new) result }
         ensures write { Caused LineStop.Write (W.faults sink.old) (W.faults sink.new) result }
     {
-        for byte in piece {
-            self.take_byte(alloc, *byte, files, sink, notes, steps)?;
+        let mut rest = piece;
+        while let Some(end) = memchr(b'\n', rest) {
+            self.end_line(alloc, &rest[..end], files, sink, notes, steps)?;
+            rest = &rest[end + 1..];
         }
+        self.line.keep(rest)?;
         Ok(())
     }
 
@@ -192,7 +149,7 @@ impl Reading {
             alloc,
             &mut self.refusals,
             &mut self.script,
-            &self.line,
+            self.line.as_last(),
             files,
             sink,
             steps,
@@ -200,24 +157,4 @@ impl Reading {
         self.counts.note(alloc, notes, wrong)?;
         Ok(())
     }
-}
-
-/// The line without a CR at its end.
-fn without_cr(line: &[u8]) -> &[u8]
-    ensures { result.now ≡ strip_carriage_return line.now }
-{
-    match line {
-        [front @ .., b'\r'] => front,
-        _ => line,
-    }
-}
-
-/// What is answered of a line that an LF ends, of which these bytes are kept: all of them where it has more.
-fn ended(kept: &[u8], long: bool) -> &[u8]
-    ensures { result.now ≡ (if long then kept.now else strip_carriage_return kept.now) }
-{
-    if long {
-        return kept;
-    }
-    without_cr(kept)
 }

@@ -1,5 +1,5 @@
 //! A script, run over a source.
-ghost use Rattle.std.specs.Prelude.{◌≡◌, ◌≢◌, ◌+◌, ◌≤◌, [], length, is_some, None, Err, IfOk, OnOk};
+ghost use Rattle.std.specs.Prelude.{◌≡◌, ◌≢◌, ◌+◌, ◌≤◌, nat_lt, [], length, is_some, None, Err, IfOk, OnOk};
 ghost use Rattle.std.specs.Option.{ForSome};
 ghost use Rattle.std.specs.Result.{ForErr};
 ghost use Rattle.outside.specs.Causes.{Caused, HasCause};
@@ -39,6 +39,13 @@ fn next_turn<R: Source>(source: &mut R, buf: &mut [u8], taken: usize) -> Result<
         1
     };
     source.take(&mut buf[..ask])
+}
+
+/// Whether so many bytes are more than a script may have.
+fn is_too_long(taken: usize) -> bool
+    ensures { result ≡ nat_lt most_script taken }
+{
+    taken > MOST_SCRIPT
 }
 
 /// So many bytes to take a turn's bytes into.
@@ -86,7 +93,7 @@ fn take_turns<F: Files, R: Source, W: Sink, N: Sink, L: Ledger>(
             return Ok(());
         }
         taken += count;
-        if taken > MOST_SCRIPT {
+        if is_too_long(taken) {
             return Err(Stop::Long);
         }
         reading.feed(alloc, &buf[..count], files, sink, notes, steps)?;

@@ -10,7 +10,6 @@ use Rattle.script_run.specs.Transcripts.{Session, IsTranscript}
 use Rattle.script_run.specs.LineCounts.{AreCounted}
 use Rattle.script_run.specs.Notes.{RunShown, notes_shown, with_notes}
 use Rattle.script_run.specs.declared.line_counts.LineCounts.{LineCounts}
-use Rattle.script_run.specs.declared.stop.Stop.TheVariants as stops
 
 -- what is shown of a sink: nothing, where answers are kept and not written
 abbrev pub told_by : Option (Vec ℕ Global) → Option (List ℕ) → Option (List ℕ)

@@ -1,5 +1,5 @@
 -- What a run over a front of a script has done, for the contracts of its parts.
-use Rattle.std.specs.Prelude.{◌≡◌, ℕ, ◌+◌, ◌-◌, ◌≤◌, nat_lt, ◌==◌, Bool, false, ◌||◌, List, [], ◌∷◌, ◌++◌, length, take, Option, Some, None, Vec, Result, Ok, Err, ⊤}
+use Rattle.std.specs.Prelude.{◌≡◌, ℕ, ◌+◌, ◌-◌, ◌≤◌, ◌==◌, Bool, false, ◌||◌, List, [], ◌∷◌, ◌++◌, length, Option, Some, None, Vec, Result, Ok, Err, ⊤}
 use Rattle.std.specs.declared.alloc.Global.{Global}
 use Rattle.std.specs.Option.{ForSome}
 use Rattle.std.specs.List.{slice_split}
@@ -9,12 +9,13 @@ use Rattle.script_steps.specs.declared.stop.LineStop.{LineStop}
 use Rattle.script_steps.specs.Steps.{Standing, Answer, IsStep, first_standing}
 use Rattle.script_steps.specs.StepClauses.{IsAnswered}
 use Rattle.outside.specs.Told.{FileMap}
-use Rattle.script_run.specs.Limits.{most_line, most_script}
+use Rattle.script_run.specs.Limits.{most_script}
 use Rattle.script_run.specs.Stops.{stop_of}
 use Rattle.script_run.specs.Transcripts.{Session, ended_lines, refusal_of}
 use Rattle.script_steps.specs.Shown.{OutsideShown}
 use Rattle.script_run.specs.Notes.{IsToldOf, RunShown}
 use Rattle.script_run.specs.RunClauses.{RunResult, RunLeaves}
+use Rattle.script_run.specs.private.OpenLines.{Holds}
 use Rattle.script_run.specs.private.RunClauses.{EndsAt, KeepsRefusals}
 use Rattle.script_run.specs.declared.stop.Stop.{Stop}
 use Rattle.script_run.specs.declared.reading.Reading.{Reading}
@@ -68,17 +69,6 @@ last_part (part ∷ next ∷ more) = last_part (next ∷ more)
 abbrev pub open_line : List ℕ → List ℕ
 open_line bytes = last_part (slice_split (λ b. b == 10) bytes)
 
--- the line that is being read has these bytes so far: its front is kept, and whether there are more
-pub record Holds (reading : Reading) (line : List ℕ) : Type 0 where
-  pub front : reading.line.items ≡ take (most_line + 1) line
-  pub long : reading.long ≡ nat_lt (most_line + 1) (length line)
-
--- the same lines were answered
-pub record IsSameSoFar (was is : Reading) : Type 0 where
-  pub counts : is.counts ≡ was.counts
-  pub script : is.script ≡ was.script
-  pub refusals : is.refusals ≡ was.refusals
-
 -- where refusals are kept, the answer was put to them where it is one
 abbrev pub Keeps : Option (Vec ℕ Global) → Option (Vec ℕ Global) → Answer → Type 0
 Keeps None None answer = ⊤
@@ -101,7 +91,7 @@ pub record Stands (before now : RunShown) (bytes : List ℕ) (reading : Reading)
   pub same : now.files ≡ before.files
   pub appended : Appends before.written now.written out
   pub counted : before.steps ≤ now.steps
-  pub held : Holds reading (open_line bytes)
+  pub held : Holds reading.line (open_line bytes)
   pub kept : KeepsRefusals reading.refusals refusals
   pub told : IsToldOf lines refused_lines
       (record { counts = reading.counts; before = before.notes; after = now.notes })
@@ -155,8 +145,7 @@ pub record ClosesAt (old : RunShown) (was : Reading) (standing : Standing)
 
 -- nothing of a script was read yet
 pub record IsAtStart (reading : Reading) : Type 0 where
-  pub line : reading.line.items ≡ []
-  pub long : reading.long ≡ false
+  pub line : Holds reading.line []
   pub script : reading.script ≡ first_standing
   pub refusals : KeepsRefusals reading.refusals []
   pub counts : AreCounted 0 [] reading.counts

@@ -1,5 +1,5 @@
 use Rattle.std.proofs.Common.{◌≡◌, ◌∙◌, ap}
-use Rattle.std.specs.Prelude.{Bool, Err, None, ◌++◌}
+use Rattle.std.specs.Prelude.{Bool, None, ◌++◌}
 use Rattle.std.proofs.lemmas.Result.{err_from_is_err_and}
 use Rattle.script_steps.specs.Shown.{shown}
 use Rattle.script_steps.specs.declared.stop.LineStop.TheVariants.{Memory}

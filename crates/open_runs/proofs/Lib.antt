@@ -1,0 +1,4 @@
+pub mod CauseLemmas
+pub mod FirstLemmas
+pub mod LineLemmas
+pub mod TallyLemmas
