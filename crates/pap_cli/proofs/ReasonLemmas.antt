@@ -15,10 +15,12 @@ use Rattle.pap_plan.specs.declared.refusal.PlanRefusal.TheVariants as refusals
 use Rattle.pap_plan.specs.Acceptance.{IsRefused, IsRefusedOrMemory}
 use Rattle.pap_plan.specs.AcceptanceClauses.{IsAcceptedAs}
 use Rattle.pap_plan.specs.Plans.{Seen, meaning}
-use Rattle.pay_run.specs.Accepted.{accepted}
+use Rattle.pay_run.specs.Accepted.{Accepted, accepted}
 use Rattle.pay_run.specs.Runs.{filled}
+use Rattle.diagnostics.specs.FaultLines.{IsPlanLine, IsStateLine, TellsEach}
+use Rattle.diagnostics.specs.RunReasons.{named_reason, run_reasons}
+use Rattle.diagnostics.proofs.Laws.{first_named}
 use Rattle.plain_words.specs.Places.{PlanFiles}
-use Rattle.plain_words.specs.Refusals.{TellsPlan}
 use Rattle.plan_answers.specs.Answers.{Answer}
 use Rattle.plan_answers.specs.Fronts.{AreFronts}
 use Rattle.script_run.specs.declared.stop.Stop.{Stop}
@@ -29,12 +31,12 @@ use Rattle.pap_cli.specs.declared.words.Command.{Command}
 use Rattle.pap_cli.specs.declared.words.Command.TheVariants.{Check, Once}
 use Rattle.script_run.specs.Notes.{NotesShown, AreNoted}
 use Rattle.pap_cli.specs.Notes.{NotesTell, HasReason}
-use Rattle.pap_cli.specs.Reasons.{IsReasonLine, TellsOnce, files_on}
+use Rattle.pap_cli.specs.Reasons.{IsReasonOn, TellsReasons, files_on}
 use Rattle.pap_cli.specs.RunAnswers.{IsRunOn}
 use Rattle.pap_cli.specs.ScriptWords.{AsksOfFiles, ReadsScript}
 use Rattle.pap_cli.specs.Statuses.{status_of}
 use Rattle.pap_cli.specs.Words.{Form, HasForm}
-use Rattle.pap_cli.specs.private.ReasonViews.{HasReasonOn, IsLineOf, IsPlanReason, IsStateReason, TellsFilled, TellsOn}
+use Rattle.pap_cli.specs.private.ReasonViews.{HasReasonOn, TellsOn}
 use Rattle.pap_cli.specs.private.WordViews.{form_by}
 use Rattle.pap_cli.proofs.WordLemmas.{one_form}
 
@@ -53,10 +55,7 @@ pub state_answer : (f : Flowchart) (b : Blocked) (text : List ℕ) (refused : Bo
 state_answer f b text refused steps h =
     subst (λ (r : Bool). IsRunOn f (State b) (record { text = text; refused = r; steps = steps })) (told_blocked f b _ h) h
 
--- ---- words as a line
-
-pub line_map : (P Q : List ℕ → Type 0) (text : List ℕ) → ((words : List ℕ) → P words → Q words) → IsLineOf P text → IsLineOf Q text
-line_map P Q text f h = record { words = h.words; says = f h.words h.says; is = h.is }
+-- ---- what is told
 
 pub if_some_map : {A : Type 0} (o : Option A) (P Q : A → Type 0) → ((a : A) → P a → Q a) → IfSome o P → IfSome o Q
 if_some_map None P Q f h = h
@@ -82,46 +81,48 @@ refused_is plan limits (refusals.Bind name) other h = h
 refused_is plan limits (refusals.Range fault) other h = h
 refused_is plan limits refusals.Memory other h = absurd (other refl)
 
--- the words of a refused plan
+-- what is told of a refused plan
 pub tells_plan : (c : Command) (files : PlanFiles) (refusal : PlanRefusal) → IsRefused files.plan.bytes files.ranges.bytes refusal
-    → (words : List ℕ) → IsPlanReason files refusal words → TellsOn c files words
-tells_plan Check files refusal refused words h = record { refusal = refusal; refused = refused; line = h.line; begins = h.begins }
-tells_plan (Once values) files refusal refused words h =
-    inl (record { refusal = refusal; refused = refused; line = h.line; begins = h.begins })
+    → (text : List ℕ) → TellsEach (IsPlanLine files) (refusal ∷ []) text → TellsOn c files text
+tells_plan Check files refusal refused text h = record { refusal = refusal; refused = refused; tells = h }
+tells_plan (Once values) files refusal refused text h = inl (record { refusal = refusal; refused = refused; tells = h })
 
--- the words of a run without inputs
+-- what is told of a run without inputs
 pub tells_state : (values : List NamedValue) (files : PlanFiles) (p : Seen) → IsAcceptedAs files.plan.bytes files.ranges.bytes p
-    → (words : List ℕ) → TellsFilled values (accepted p) files words → TellsOn (Once values) files words
-tells_state values files p h words t = inr (record {
+    → (text : List ℕ) → TellsReasons values (accepted p) files text → TellsOn (Once values) files text
+tells_state values files p h text t = inr (record {
   meaning = meaning p;
   accepted = h.accepted;
-  state = t.state;
-  blocked = subst (λ l. filled (record { plan = files.plan.bytes; limits = l; meaning = meaning p }) values [] ≡ State t.state) h.limits_bytes
-      (subst (λ b. filled (record { plan = b; limits = p.limits; meaning = meaning p }) values [] ≡ State t.state) h.plan_bytes t.blocked);
-  line = t.says.line;
-  begins = t.says.begins;
+  reasons = subst (λ l. TellsReasons values (record { plan = files.plan.bytes; limits = l; meaning = meaning p }) files text) h.limits_bytes
+      (subst (λ b. TellsReasons values (record { plan = b; limits = p.limits; meaning = meaning p }) files text) h.plan_bytes t);
 })
 
-pub tells_filled : (values : List NamedValue) (p : Seen) (files : PlanFiles) (state : Blocked) → filled (accepted p) values [] ≡ State state
-    → (words : List ℕ) → IsStateReason files state words → TellsFilled values (accepted p) files words
-tells_filled values p files state is words h = record { state = state; blocked = is; says = h }
+pub tells_reasons : (values given : List NamedValue) (p : Accepted) (files : PlanFiles) (state : Blocked) (reasons : List Blocked)
+    → filled p values [] ≡ State state → given ≡ values → reasons ≡ run_reasons p given
+    → (text : List ℕ) → TellsEach (IsStateLine files) reasons text → TellsReasons values p files text
+tells_reasons values given p files state reasons is same are text h = record {
+  state = state;
+  blocked = is;
+  first = first_named p values ∙ ap named_reason is;
+  tells = subst (λ l. TellsEach (IsStateLine files) l text) (are ∙ ap (λ v. run_reasons p v) same) h;
+}
 
 -- ---- two files
 
-pub reason_line : (Tells : PlanFiles → List ℕ → Type 0) (plan limits : List ℕ) (told : Option FileMap) (bytes ranges : List ℕ)
+pub reason_on : (Tells : PlanFiles → List ℕ → Type 0) (plan limits : List ℕ) (told : Option FileMap) (bytes ranges : List ℕ)
     → ((files : FileMap) → told ≡ Some files → AreFronts files plan limits bytes ranges)
-    → (text : List ℕ) → IsLineOf (Tells (files_on plan limits bytes ranges)) text → IsReasonLine Tells plan limits told text
-reason_line Tells plan limits told bytes ranges read text h =
-    record { bytes = bytes; ranges = ranges; read = read; words = h.words; tells = h.says; is = h.is }
+    → (text : List ℕ) → Tells (files_on plan limits bytes ranges) text → IsReasonOn Tells plan limits told text
+reason_on Tells plan limits told bytes ranges read text h =
+    record { bytes = bytes; ranges = ranges; read = read; tells = h }
 
 -- ---- notes
 
 pub put_on : (reason : Option (String Global)) (c : Command) (plan limits : List ℕ) (told : Option FileMap) (before after : NotesShown)
     → is_some reason ≡ true
-    → IfSome reason (λ line. IsReasonLine (TellsOn c) plan limits told (string_bytes line))
-    → IfSome reason (λ line. AreNoted before after (string_bytes line)) → HasReasonOn c plan limits told before after
+    → IfSome reason (λ text. IsReasonOn (TellsOn c) plan limits told (string_bytes text))
+    → IfSome reason (λ text. AreNoted before after (string_bytes text)) → HasReasonOn c plan limits told before after
 put_on None c plan limits told before after some is put = absurd (false≢true some)
-put_on (Some line) c plan limits told before after some is put = record { line = string_bytes line; is = is; put = put }
+put_on (Some text) c plan limits told before after some is put = record { text = string_bytes text; is = is; put = put }
 
 pub nothing_put : {A : Type 0} (o : Option A) → is_some o ≢ true → o ≡ None
 nothing_put None h = refl
@@ -134,8 +135,8 @@ ok_same e = cc
 
 pub reason_of_form : (c : Command) (plan limits : List ℕ) (told : Option FileMap) (before after : NotesShown)
     → HasReasonOn c plan limits told before after → HasReason (form_by c plan limits) told before after
-reason_of_form Check plan limits told before after h = record { line = h.line; is = h.is; put = h.put }
-reason_of_form (Once values) plan limits told before after h = record { line = h.line; is = h.is; put = h.put }
+reason_of_form Check plan limits told before after h = record { text = h.text; is = h.is; put = h.put }
+reason_of_form (Once values) plan limits told before after h = record { text = h.text; is = h.is; put = h.put }
 
 pub asks_of_files : (c : Command) (plan limits : List ℕ) → AsksOfFiles (form_by c plan limits)
 asks_of_files Check plan limits = tt

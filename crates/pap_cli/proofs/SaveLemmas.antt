@@ -81,7 +81,7 @@ module _ (before after : Outside) (ended : Unwritten) (reply : Reply) (first not
     RunMeets (with_notes (unwritten before) first) (with_notes (unwritten after) notes) script after.left (Ok ended.counts)))
     (ends : ForSome before.left (λ script. ForSome before.files (λ files. EndsUnwritten files script ended)))
     (save : IsSave (counts_one ended.counts) (was_filed ended.script) (ended.refusals).items (ended.script).book (written_of reply))
-    (summed : AreSummed ended.counts notes last) (kept : after.failed ≡ before.failed) where
+    (summed : AreSummed before.left before.files ended.counts notes last) (kept : after.failed ≡ before.failed) where
   -- the answer was written whole
   pub leaves_whole : Appends before.written after.written reply.text.items →
       LeavesOnSave before after (record { counts = ended.counts; before = first; after = last }) (done_status reply.refused)

@@ -51,7 +51,7 @@ no_more last meets = record {
 pub script_end : (before after : Outside) (first notes last : NotesShown) (counts : LineCounts) →
     ForSome before.left (λ script.
     RunMeets (with_notes (shown_of before) first) (with_notes (shown_of after) notes) script after.left (Ok counts)) →
-    after.failed ≡ before.failed → AreSummed counts notes last →
+    after.failed ≡ before.failed → AreSummed before.left before.files counts notes last →
     LeavesOnScript before after (record { counts = counts; before = first; after = last }) (done_status (counts_one counts))
 script_end before after first notes last counts meets kept summed = record {
   result = Ok counts;

@@ -1,16 +1,17 @@
 -- Why an answer on two files is a refusal, in plain words.
-use Rattle.std.specs.Prelude.{◌≡◌, ◌⊎◌, ℕ, List, [], ◌∷◌, ◌++◌, Option}
+use Rattle.std.specs.Prelude.{◌≡◌, ◌⊎◌, ℕ, List, [], ◌∷◌, Option, Some, slice_get}
 use Rattle.std.specs.Option.{ForSome}
 use Rattle.outside.specs.Told.{FileMap}
 use Rattle.payroll_records.specs.declared.values.NamedValue.{NamedValue}
 use Rattle.carry_bindings.specs.declared.filling.Blocked.{Blocked}
 use Rattle.carry_bindings.specs.declared.filling.Filled.TheVariants.{State}
-use Rattle.pap_plan.specs.Acceptance.{Meaning, IsAccepted}
+use Rattle.pap_plan.specs.declared.refusal.PlanRefusal.{PlanRefusal}
+use Rattle.pap_plan.specs.Acceptance.{Meaning, IsAccepted, IsRefused}
+use Rattle.pay_run.specs.Accepted.{Accepted}
 use Rattle.pay_run.specs.Runs.{filled}
-use Rattle.plain_words.specs.Lines.{IsOneLine}
+use Rattle.diagnostics.specs.FaultLines.{IsPlanLine, IsStateLine, TellsEach}
+use Rattle.diagnostics.specs.RunReasons.{run_reasons}
 use Rattle.plain_words.specs.Places.{PlanFiles}
-use Rattle.plain_words.specs.Refusals.{TellsPlan}
-use Rattle.plain_words.specs.States.{SaysState}
 use Rattle.plan_answers.specs.Fronts.{AreFronts}
 use Rattle.pap_cli.specs.Words.{Form, check, once}
 
@@ -21,33 +22,43 @@ files_on plan limits bytes ranges = record {
   ranges = record { name = limits; bytes = ranges };
 }
 
--- these files are accepted, and a run on these values has no inputs: the words are one line that begins with the place
--- of that and says why
-pub record TellsState (values : List NamedValue) (files : PlanFiles) (words : List ℕ) : Type 0 where
+-- the plan of two files that are accepted
+abbrev pub accepted_files : PlanFiles → Meaning → Accepted
+accepted_files files meaning = record { plan = files.plan.bytes; limits = files.ranges.bytes; meaning = meaning }
+
+-- a run of this plan on these values has no inputs: the text tells all reasons, and the first is the one that is answered
+pub record TellsReasons (values : List NamedValue) (p : Accepted) (files : PlanFiles) (text : List ℕ) : Type 0 where
+  pub state : Blocked
+  pub blocked : filled p values [] ≡ State state
+  pub first : slice_get (run_reasons p values) 0 ≡ Some state
+  pub tells : TellsEach (IsStateLine files) (run_reasons p values) text
+
+-- the plan of these files is refused: the text tells that in a line
+pub record TellsRefusal (files : PlanFiles) (text : List ℕ) : Type 0 where
+  pub refusal : PlanRefusal
+  pub refused : IsRefused files.plan.bytes files.ranges.bytes refusal
+  pub tells : TellsEach (IsPlanLine files) (refusal ∷ []) text
+
+-- these files are accepted, and a run on these values has no inputs: the text tells all reasons, of which the first is the one that
+-- is answered
+pub record TellsState (values : List NamedValue) (files : PlanFiles) (text : List ℕ) : Type 0 where
   pub meaning : Meaning
   pub accepted : IsAccepted files.plan.bytes files.ranges.bytes meaning
-  pub state : Blocked
-  pub blocked : filled (record { plan = files.plan.bytes; limits = files.ranges.bytes; meaning = meaning }) values []
-      ≡ State state
-  pub line : IsOneLine words
-  pub begins : SaysState files state words
+  pub reasons : TellsReasons values (accepted_files files meaning) files text
 
--- the words say why the plan is refused, or why its run on these values has no inputs
+-- the text says why the plan is refused, or why its run on these values has no inputs
 abbrev pub TellsOnce : List NamedValue → PlanFiles → List ℕ → Type 0
-TellsOnce values files words = TellsPlan files words ⊎ TellsState values files words
+TellsOnce values files text = TellsRefusal files text ⊎ TellsState values files text
 
--- the text is a line of words that tell such a thing of what was read of the two files: where the files tell what they
--- hold, these are its first bytes
-pub record IsReasonLine (Tells : PlanFiles → List ℕ → Type 0) (plan limits : List ℕ) (told : Option FileMap) (text : List ℕ) : Type 0 where
+-- the text tells such a thing of what was read of the two files: where the files tell what they hold, these are its first bytes
+pub record IsReasonOn (Tells : PlanFiles → List ℕ → Type 0) (plan limits : List ℕ) (told : Option FileMap) (text : List ℕ) : Type 0 where
   pub bytes : List ℕ
   pub ranges : List ℕ
   pub read : ForSome told (λ files. AreFronts files plan limits bytes ranges)
-  pub words : List ℕ
-  pub tells : Tells (files_on plan limits bytes ranges) words
-  pub is : text ≡ words ++ 10 ∷ []
+  pub tells : Tells (files_on plan limits bytes ranges) text
 
--- the text is a line that says why the answer of this form is a refusal
+-- the text is lines that say why the answer of this form is a refusal
 abbrev pub IsReasonFor : Form → Option FileMap → List ℕ → Type 0
-IsReasonFor (check plan limits) told text = IsReasonLine TellsPlan plan limits told text
-IsReasonFor (once plan limits values) told text = IsReasonLine (TellsOnce values) plan limits told text
+IsReasonFor (check plan limits) told text = IsReasonOn TellsRefusal plan limits told text
+IsReasonFor (once plan limits values) told text = IsReasonOn (TellsOnce values) plan limits told text
 IsReasonFor _ told text = ⊥

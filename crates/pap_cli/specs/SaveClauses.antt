@@ -42,14 +42,14 @@ SaveEnds before after out status (Ok counts) = IsSaveEnd before after out status
 SaveEnds before after out status (Err stopped) = IsSaveStop out status stopped.stop
 
 -- what the call leaves: how the script's run ended, which wrote nothing, what it told of refused lines, and what was written
--- then. The notes have the reasons of refused lines, and then how many there were
+-- then. The notes have the reasons of refused lines, and then the sum of the script
 pub record LeavesOnSave (before after : Outside) (told : Telling) (status : Status) : Type 0 where
   pub result : RunResult
   pub counts : told.counts ≡ counts_of result
   pub notes : NotesShown
   pub meets : ForSome before.left (λ script.
       RunMeets (with_notes (unwritten before) told.before) (with_notes (unwritten after) notes) script after.left result)
-  pub summed : SumsUp result notes told.after
+  pub summed : SumsUp before.left before.files result notes told.after
   pub out : List ℕ
   pub appended : Appends before.written after.written out
   pub ends : SaveEnds before after out status result

@@ -15,7 +15,7 @@ use Rattle.pap_cli.specs.Notes.{SumsUp}
 use Rattle.pap_cli.specs.Outside.{Outside, shown_of}
 
 -- what a run leaves, and what it tells of refused lines; of the text where the source tells the script and the files what
--- they hold. The notes have the reasons of refused lines, and then how many there were
+-- they hold. The notes have the reasons of refused lines, and then the sum of the script
 pub record LeavesOnScript (before after : Outside) (told : Telling) (status : Status) : Type 0 where
   pub result : RunResult
   pub ended : status ≡ status_of (ended_of result)
@@ -23,7 +23,7 @@ pub record LeavesOnScript (before after : Outside) (told : Telling) (status : St
   pub notes : NotesShown
   pub meets : ForSome before.left (λ script.
       RunMeets (with_notes (shown_of before) told.before) (with_notes (shown_of after) notes) script after.left result)
-  pub summed : SumsUp result notes told.after
+  pub summed : SumsUp before.left before.files result notes told.after
   pub kept : status ≢ statuses.FileFault → after.failed ≡ before.failed
 
 -- all files that the script names are there, its transcript was written whole, the source is at its end, the counter rose by

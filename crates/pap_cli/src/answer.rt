@@ -1,5 +1,5 @@
 //! The answer on two files.
-ghost use Rattle.std.specs.Prelude.{◌≡◌, ◌≢◌, ◌+◌, true, None, Ok, IfOk, IfSome, OnErr, is_some, string_bytes};
+ghost use Rattle.std.specs.Prelude.{◌≡◌, ◌≢◌, ◌+◌, ◌∷◌, [], true, None, Ok, IfOk, IfSome, OnErr, is_some, string_bytes};
 ghost use Rattle.outside.specs.Causes.{Caused};
 ghost use Rattle.plain_words.specs.Places.{files_of};
 ghost use Rattle.plan_answers.specs.Answers.{IsRefusal};
@@ -7,18 +7,20 @@ ghost use Rattle.plan_answers.specs.Refusals.{HasItsPlan};
 ghost use Rattle.script_steps.specs.Shown.{shown};
 ghost use Rattle.pap_cli.specs.FileClauses.{IsCounted, LeavesOnFiles};
 ghost use Rattle.script_run.specs.Notes.{AreNoted, notes_shown};
-ghost use Rattle.pap_cli.specs.Reasons.{IsReasonLine};
+ghost use Rattle.pap_cli.specs.Reasons.{IsReasonOn};
+ghost use Rattle.diagnostics.specs.FaultLines.{IsPlanLine, TellsEach};
 ghost use Rattle.pap_cli.specs.Statuses.{status_of};
 ghost use Rattle.pap_cli.specs.private.AnswerViews.{answer_of, answers_of, refused_of};
-ghost use Rattle.pap_cli.specs.private.ReasonViews.{HasReasonOn, IsLineOf, IsPlanReason, TellsOn};
+ghost use Rattle.pap_cli.specs.private.ReasonViews.{HasReasonOn, TellsOn};
 
 use crate::check::check_reply;
 use crate::once::run_reply;
-use crate::reply::{FileReply, as_line};
+use crate::reply::FileReply;
 use crate::words::{Command, FileRequest};
+use diagnostics::plan_lines;
 use outside::{Files, Sink, put_all};
 use pap_plan::{PlanRefusal, accept};
-use plain_words::{TextFile, plan_words};
+use plain_words::TextFile;
 use plan_answers::{Reply, read_both, refused};
 use script_run::Stop;
 use std::alloc::{AllocError, Global};
@@ -35,8 +37,8 @@ fn reply_on_bytes<L: Ledger>(
 ) -> Result<FileReply, AllocError>
     ensures answer { IfOk result (λ reply.
         answers_of command plan.entry.bytes.now limits.entry.bytes.now (answer_of reply)) }
-    ensures reason { IfOk result (λ reply. IfSome reply.reason (λ line.
-        IsLineOf (TellsOn command (files_of plan.entry limits.entry)) (string_bytes line))) }
+    ensures reason { IfOk result (λ reply. IfSome reply.reason (λ text.
+        TellsOn command (files_of plan.entry limits.entry) (string_bytes text))) }
     ensures counted { IfOk result (λ reply. steps.new ≡ steps.old + reply.steps) }
     ensures memory { OnErr result (IsCounted
         (answers_of command plan.entry.bytes.now limits.entry.bytes.now) steps.old steps.new) }
@@ -62,12 +64,12 @@ fn refused_reply(
     requires { HasItsPlan plan.bytes.now fault.now }
     ensures answer { IfOk result
         (λ reply. IsRefusal plan.entry.bytes.now fault.now (answer_of reply)) }
-    ensures reason { IfOk result (λ reply. IfSome reply.reason (λ line.
-        IsLineOf (IsPlanReason (files_of plan.entry limits.entry) fault.now) (string_bytes line))) }
+    ensures reason { IfOk result (λ reply. IfSome reply.reason (λ text.
+        TellsEach (IsPlanLine (files_of plan.entry limits.entry)) (fault.now ∷ [])
+        (string_bytes text))) }
 {
     let Reply { text, steps, .. } = refused(alloc, plan.bytes, fault)?;
-    let words = plan_words(alloc, plan, limits, fault)?;
-    let reason = as_line(words)?;
+    let reason = plan_lines(alloc, plan, limits, fault, &[])?;
     Ok(FileReply {
         text,
         reason: Some(reason),
@@ -75,7 +77,7 @@ fn refused_reply(
     })
 }
 
-/// Writes the answer that is asked for. `Ok` has its reason where it is a refusal: a line of plain words.
+/// Writes the answer that is asked for. `Ok` has its reason where it is a refusal: lines of plain words.
 fn write_answer<F: Files, W: Sink, L: Ledger>(
     alloc: Global,
     request: FileRequest<'_>,
@@ -88,9 +90,9 @@ fn write_answer<F: Files, W: Sink, L: Ledger>(
         (shown (F.told files.old) (F.failed files.old) (W.written sink.old) steps.old)
         (shown (F.told files.new) (F.failed files.new) (W.written sink.new) steps.new)
         (status_of (refused_of result)) }
-    ensures reason { IfOk result (λ reason. IfSome reason (λ line.
-        IsReasonLine (TellsOn request.entry.command) request.entry.plan.now
-        request.entry.limits.now (F.told files.old) (string_bytes line))) }
+    ensures reason { IfOk result (λ reason. IfSome reason (λ text.
+        IsReasonOn (TellsOn request.entry.command) request.entry.plan.now
+        request.entry.limits.now (F.told files.old) (string_bytes text))) }
     ensures check { request.entry.command ≡ Command.Check → steps.new ≡ steps.old }
     ensures same { F.told files.new ≡ F.told files.old }
     ensures file { Caused Stop.File (F.faults files.old) (F.faults files.new) result }
@@ -122,12 +124,12 @@ fn write_answer<F: Files, W: Sink, L: Ledger>(
 fn put_reason<N: Sink>(notes: &mut N, reason: Option<String>) -> bool
     ensures marked { result ≡ is_some reason }
     ensures silent { reason ≡ None → notes.new ≡ notes.old }
-    ensures put { IfSome reason (λ line. AreNoted
-        (notes_shown N.Sink notes.old) (notes_shown N.Sink notes.new) (string_bytes line)) }
+    ensures put { IfSome reason (λ text. AreNoted
+        (notes_shown N.Sink notes.old) (notes_shown N.Sink notes.new) (string_bytes text)) }
 {
     match reason {
-        Some(line) => {
-            let _ = put_all(notes, line.as_bytes());
+        Some(text) => {
+            let _ = put_all(notes, text.as_bytes());
             true
         }
         None => false,

@@ -6,19 +6,22 @@ ghost use Rattle.plain_words.specs.Places.{files_of};
 ghost use Rattle.pap_cli.specs.private.RunViews.{named_lines};
 ghost use Rattle.pap_cli.specs.RunAnswers.{IsRunOn};
 ghost use Rattle.pap_cli.specs.private.AnswerViews.{answer_of, IsRunWith};
-ghost use Rattle.pap_cli.specs.private.ReasonViews.{IsLineOf, IsStateReason, TellsFilled};
+ghost use Rattle.pap_cli.specs.Reasons.{TellsReasons};
+ghost use Rattle.diagnostics.specs.FaultLines.{IsStateLine, TellsEach};
+ghost use Rattle.diagnostics.specs.RunReasons.{run_reasons};
 ghost use Rattle.plan_answers.specs.Replies.{reply_of};
 ghost use Rattle.pap_cli.specs.FileClauses.{IsCounted};
 ghost use Rattle.carry_bindings.specs.declared.filling.Filled.TheVariants.{Inputs, State};
 ghost use Rattle.payroll_records.specs.declared.day.Day.{Day as Date};
 ghost use Rattle.pap_tree.specs.Flowchart.{Flowchart};
 
-use crate::reply::{FileReply, as_line};
+use crate::reply::FileReply;
 use carry_bindings::{Blocked, Filled};
+use diagnostics::{run_reasons, state_lines};
 use pap_plan::Plan;
 use pay_run::{filled, run};
 use payroll_records::{Day, Employee, NamedValue, Record, Values};
-use plain_words::{TextFile, state_words};
+use plain_words::TextFile;
 use plan_answers::{Reply, refusal};
 use scaled_decimal::Dec;
 use std::alloc::{AllocError, Global};
@@ -35,9 +38,9 @@ pub(crate) fn run_reply<L: Ledger>(
     steps: &mut Steps<L>,
 ) -> Result<FileReply, AllocError>
     ensures answer { IfOk result (λ reply. IsRunWith values judged.now (answer_of reply)) }
-    ensures reason { IfOk result (λ reply. IfSome reply.reason (λ line.
-        IsLineOf (TellsFilled values (accepted judged.now) (files_of plan.entry limits.entry))
-        (string_bytes line))) }
+    ensures reason { IfOk result (λ reply. IfSome reply.reason (λ text.
+        TellsReasons values (accepted judged.now) (files_of plan.entry limits.entry)
+        (string_bytes text))) }
     ensures counted { IfOk result (λ reply. steps.new ≡ steps.old + reply.steps) }
     ensures memory { OnErr result
         (IsCounted (IsRunWith values judged.now) steps.old steps.new) }
@@ -45,27 +48,29 @@ pub(crate) fn run_reply<L: Ledger>(
     let record = record_of(values);
     match filled(alloc, judged, &record, &[])? {
         Filled::Inputs(inputs) => finished(alloc, judged, inputs.as_slice(), steps),
-        Filled::State(state) => state_reply(alloc, plan, limits, &state),
+        Filled::State(state) => state_reply(alloc, plan, limits, judged, &record.values, &state),
     }
 }
 
-/// The refusal of a run that has no inputs, with its reason. A run without earlier ones waits for none.
+/// The refusal of a run that has no inputs, with all reasons. A run without earlier ones waits for none.
 fn state_reply(
     alloc: Global,
     plan: TextFile<'_>,
     limits: TextFile<'_>,
+    judged: &Plan,
+    values: &Values,
     state: &Blocked,
 ) -> Result<FileReply, AllocError>
     requires { (day : Date) → state.now ≢ Blocked.Waits day }
     ensures answer { (f : Flowchart) → IfOk result
         (λ reply. IsRunOn f (State state.now) (answer_of reply)) }
-    ensures reason { IfOk result (λ reply. IfSome reply.reason (λ line.
-        IsLineOf (IsStateReason (files_of plan.entry limits.entry) state.now)
-        (string_bytes line))) }
+    ensures reason { IfOk result (λ reply. IfSome reply.reason (λ text.
+        TellsEach (IsStateLine (files_of plan.entry limits.entry))
+        (run_reasons (accepted judged.now) values.now) (string_bytes text))) }
 {
     let reply = state_refusal(alloc, state)?;
-    let words = state_words(alloc, plan, limits, state)?;
-    let reason = as_line(words)?;
+    let reasons = run_reasons(alloc, judged, values)?;
+    let reason = state_lines(alloc, plan, limits, reasons.as_slice())?;
     Ok(FileReply {
         text: reply.text,
         reason: Some(reason),

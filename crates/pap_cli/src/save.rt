@@ -48,7 +48,7 @@ pub(crate) fn save<F: Files, R: Source, W: Sink, N: Sink, L: Ledger>(
         }
     };
     *counts = ended.counts;
-    sum_up(alloc, ended.counts, notes)?;
+    sum_up(alloc, ended.counts, ended.script.book(), notes)?;
     let reply = saved(alloc, ended.counts.any(), ended.refusals, &ended.script)?;
     match put_all(sink, &reply.text) {
         Ok(()) => Ok(reply.refused),

@@ -36,7 +36,7 @@ pub(crate) fn carry_out<F: Files, R: Source, W: Sink, N: Sink, L: Ledger>(
     match run(alloc, files, source, sink, notes, steps) {
         Ok(ended) => {
             *counts = ended.counts;
-            sum_up(alloc, ended.counts, notes)?;
+            sum_up(alloc, ended.counts, ended.script.book(), notes)?;
             Ok(ended.counts.any())
         }
         Err(stopped) => {

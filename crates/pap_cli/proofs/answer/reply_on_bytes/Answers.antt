@@ -1,8 +1,9 @@
-use Rattle.std.proofs.Common.{rules, refl, ◌≡◌, ◌≢◌, ◌+◌, inl, arith}
+use Rattle.std.proofs.Common.{rules, refl, ◌≡◌, ◌≢◌, ◌+◌, [], ◌∷◌, inl, arith}
 use Rattle.std.specs.Prelude.{IfSome, string_bytes}
 use Rattle.pap_plan.specs.Plans.{meaning}
 use Rattle.pap_plan.specs.declared.refusal.PlanRefusal.TheVariants as refusals
 use Rattle.pay_run.specs.Accepted.{accepted}
+use Rattle.diagnostics.specs.FaultLines.{IsPlanLine, TellsEach}
 use Rattle.plain_words.specs.Places.{files_of}
 use Rattle.plan_answers.specs.Answers.{acceptance, CheckAnswers, IsRefusal}
 use Rattle.plan_answers.proofs.Laws.{if_ok_map, its_plan, on_err_any, on_err_map, refusal_steps}
@@ -10,8 +11,9 @@ use Rattle.pap_cli.specs.FileClauses.{IsCounted}
 use Rattle.pap_cli.specs.RunAnswers.{OnceAnswers}
 use Rattle.pap_cli.specs.declared.words.Command.TheVariants as commands
 use Rattle.pap_cli.specs.private.AnswerViews.{answer_of, answers_of, IsRunWith}
-use Rattle.pap_cli.specs.private.ReasonViews.{IsLineOf, IsPlanReason, TellsFilled, TellsOn}
-use Rattle.pap_cli.proofs.ReasonLemmas.{if_some_map, if_some_none, line_map, refused_is, tells_plan, tells_state}
+use Rattle.pap_cli.specs.Reasons.{TellsReasons}
+use Rattle.pap_cli.specs.private.ReasonViews.{TellsOn}
+use Rattle.pap_cli.proofs.ReasonLemmas.{if_some_map, if_some_none, refused_is, tells_plan, tells_state}
 use Rattle.pap_cli.proofs.RunLemmas.{answer_refused, counted_map, check_accepted, no_steps, once_accepted}
 use Rattle.pap_cli.proofs.answer.reply_on_bytes.Goals as goal
 
@@ -55,13 +57,13 @@ returns-in-Ok-clause-reason g c =
     let values = c.in-Once.values in
     let judged = c.in-Ok.accepted in
     let files = files_of c.args.plan c.args.limits in
-    let Tells = TellsFilled values (accepted judged) files in
+    let Tells = TellsReasons values (accepted judged) files in
     let Says = TellsOn (commands.Once values) files in
     rw c.in-Once.is
-    (if_ok_map c.run_reply.result (λ reply. IfSome reply.reason (λ line. IsLineOf Tells (string_bytes line)))
-    (λ reply. IfSome reply.reason (λ line. IsLineOf Says (string_bytes line)))
-    (λ reply h. if_some_map reply.reason (λ line. IsLineOf Tells (string_bytes line)) (λ line. IsLineOf Says (string_bytes line))
-    (λ line t. line_map Tells Says (string_bytes line) (tells_state values files judged c.in-Ok.ensures.accepted) t) h)
+    (if_ok_map c.run_reply.result (λ reply. IfSome reply.reason (λ text. Tells (string_bytes text)))
+    (λ reply. IfSome reply.reason (λ text. Says (string_bytes text)))
+    (λ reply h. if_some_map reply.reason (λ text. Tells (string_bytes text)) (λ text. Says (string_bytes text))
+    (λ text t. tells_state values files judged c.in-Ok.ensures.accepted (string_bytes text) t) h)
     c.run_reply.ensures.reason)
 
 pub returns-in-Ok-clause-memory : goal.returns-in-Ok-clause-memory
@@ -91,13 +93,13 @@ returns-clause-reason g c =
     let other : c.in-Err.fault ≢ refusals.Memory = search rules in
     let fault = c.in-Err.fault in
     let files = files_of c.args.plan c.args.limits in
-    let Tells = IsPlanReason files fault in
+    let Tells = TellsEach (IsPlanLine files) (fault ∷ []) in
     let Says = TellsOn c.args.command files in
     let refused = refused_is c.args.plan.bytes.now c.args.limits.bytes.now fault other c.in-Err.ensures.refused in
-    if_ok_map c.refused_reply.result (λ reply. IfSome reply.reason (λ line. IsLineOf Tells (string_bytes line)))
-    (λ reply. IfSome reply.reason (λ line. IsLineOf Says (string_bytes line)))
-    (λ reply h. if_some_map reply.reason (λ line. IsLineOf Tells (string_bytes line)) (λ line. IsLineOf Says (string_bytes line))
-    (λ line t. line_map Tells Says (string_bytes line) (tells_plan c.args.command files fault refused) t) h)
+    if_ok_map c.refused_reply.result (λ reply. IfSome reply.reason (λ text. Tells (string_bytes text)))
+    (λ reply. IfSome reply.reason (λ text. Says (string_bytes text)))
+    (λ reply h. if_some_map reply.reason (λ text. Tells (string_bytes text)) (λ text. Says (string_bytes text))
+    (λ text t. tells_plan c.args.command files fault refused (string_bytes text) t) h)
     c.refused_reply.ensures.reason
 
 pub returns-clause-counted : goal.returns-clause-counted

@@ -3,12 +3,12 @@ use Rattle.std.specs.Prelude.{Err, IfSome, string_bytes}
 use Rattle.std.proofs.lemmas.Result.{err_from_is_err_and}
 use Rattle.outside.specs.Told.{Appends, AppendsShort}
 use Rattle.pap_cli.specs.private.AnswerViews.{answer_of, answers_of, refused_of}
-use Rattle.pap_cli.specs.private.ReasonViews.{IsLineOf, TellsOn}
+use Rattle.pap_cli.specs.private.ReasonViews.{TellsOn}
 use Rattle.pap_cli.specs.FileClauses.{IsCounted}
-use Rattle.pap_cli.specs.Reasons.{IsReasonLine, files_on}
+use Rattle.pap_cli.specs.Reasons.{IsReasonOn, files_on}
 use Rattle.pap_cli.proofs.FrontLemmas.{answers_both}
 use Rattle.pap_cli.proofs.LeavesLemmas.{leaves_answer, leaves_want, leaves_whole, leaves_cut}
-use Rattle.pap_cli.proofs.ReasonLemmas.{if_some_map, reason_line}
+use Rattle.pap_cli.proofs.ReasonLemmas.{if_some_map, reason_on}
 use Rattle.pap_cli.proofs.answer.write_answer.Goals as goal
 
 pub returns-in_err-plan_bytes-clause-leaves : goal.returns-in_err-plan_bytes-clause-leaves
@@ -56,8 +56,8 @@ returns-in-Ok-clause-reason g c =
     let reply = c.in_ok-reply.reply in
     let bytes = c.in_ok-plan_bytes.plan_bytes.items in
     let ranges = c.in_ok-plan_bytes.limits_bytes.items in
-    let first = subst (λ b. IfSome reply.reason (λ line. IsLineOf (TellsOn cmd (files_on plan limits b c.deref-2.result.now)) (string_bytes line))) c.deref.ensures.value c.in_ok-reply.ensures.reason in
-    let both = subst (λ b. IfSome reply.reason (λ line. IsLineOf (TellsOn cmd (files_on plan limits bytes b)) (string_bytes line))) c.deref-2.ensures.value first in
-    if_some_map reply.reason (λ line. IsLineOf (TellsOn cmd (files_on plan limits bytes ranges)) (string_bytes line))
-    (λ line. IsReasonLine (TellsOn cmd) plan limits (g.F.Files.told c.args.files.now) (string_bytes line))
-    (λ line t. reason_line (TellsOn cmd) plan limits (g.F.Files.told c.args.files.now) bytes ranges c.in_ok-plan_bytes.ensures.read (string_bytes line) t) both
+    let first = subst (λ b. IfSome reply.reason (λ text. TellsOn cmd (files_on plan limits b c.deref-2.result.now) (string_bytes text))) c.deref.ensures.value c.in_ok-reply.ensures.reason in
+    let both = subst (λ b. IfSome reply.reason (λ text. TellsOn cmd (files_on plan limits bytes b) (string_bytes text))) c.deref-2.ensures.value first in
+    if_some_map reply.reason (λ text. TellsOn cmd (files_on plan limits bytes ranges) (string_bytes text))
+    (λ text. IsReasonOn (TellsOn cmd) plan limits (g.F.Files.told c.args.files.now) (string_bytes text))
+    (λ text t. reason_on (TellsOn cmd) plan limits (g.F.Files.told c.args.files.now) bytes ranges c.in_ok-plan_bytes.ensures.read (string_bytes text) t) both

@@ -1,16 +1,18 @@
-use Rattle.std.proofs.Common.{◌≡◌, ◌+◌, sym, ap, ◌∙◌, subst, arith}
+use Rattle.std.proofs.Common.{◌≡◌, ◌+◌, refl, sym, ap, ◌∙◌, subst, arith}
 use Rattle.std.specs.Prelude.{IfSome, string_bytes}
 use Rattle.carry_bindings.specs.declared.filling.Filled.TheVariants.{Inputs, State}
 use Rattle.pap_plan.specs.Plans.{flowchart}
 use Rattle.pay_run.specs.Accepted.{accepted}
 use Rattle.pay_run.specs.RunClauses.{AdmitsFilled}
+use Rattle.diagnostics.specs.FaultLines.{IsStateLine, TellsEach}
+use Rattle.diagnostics.specs.RunReasons.{run_reasons}
 use Rattle.plain_words.specs.Places.{files_of}
 use Rattle.plan_answers.proofs.Laws.{if_ok_map, on_err_map}
 use Rattle.pap_cli.specs.private.AnswerViews.{answer_of, IsRunWith}
-use Rattle.pap_cli.specs.private.ReasonViews.{IsLineOf, IsStateReason, TellsFilled}
+use Rattle.pap_cli.specs.Reasons.{TellsReasons}
 use Rattle.pap_cli.specs.RunAnswers.{IsRunOn}
 use Rattle.pap_cli.specs.FileClauses.{IsCounted}
-use Rattle.pap_cli.proofs.ReasonLemmas.{if_some_map, if_some_none, line_map, tells_filled}
+use Rattle.pap_cli.proofs.ReasonLemmas.{if_some_map, if_some_none, tells_reasons}
 use Rattle.pap_cli.proofs.RunLemmas.{counted_map, filled_from, never_waits, state_steps}
 use Rattle.pap_cli.proofs.once.run_reply.Goals as goal
 
@@ -58,12 +60,13 @@ returns-clause-reason g c =
     let p = c.args.judged.now in
     let files = files_of c.args.plan c.args.limits in
     let from = filled_from c.args.values (accepted p) c.record_of-record.result.values (State c.in-State.state) _ c.record_of-record.ensures c.in-State.is c.in_ok-inputs.ensures.are in
-    if_ok_map c.state_reply.result (λ reply. IfSome reply.reason (λ line. IsLineOf (IsStateReason files c.in-State.state) (string_bytes line)))
-    (λ reply. IfSome reply.reason (λ line. IsLineOf (TellsFilled c.args.values (accepted p) files) (string_bytes line)))
-    (λ reply h. if_some_map reply.reason (λ line. IsLineOf (IsStateReason files c.in-State.state) (string_bytes line))
-    (λ line. IsLineOf (TellsFilled c.args.values (accepted p) files) (string_bytes line))
-    (λ line t. line_map (IsStateReason files c.in-State.state) (TellsFilled c.args.values (accepted p) files) (string_bytes line)
-    (tells_filled c.args.values p files c.in-State.state from) t) h)
+    let reasons = run_reasons (accepted p) c.record_of-record.result.values in
+    if_ok_map c.state_reply.result (λ reply. IfSome reply.reason (λ text. TellsEach (IsStateLine files) reasons (string_bytes text)))
+    (λ reply. IfSome reply.reason (λ text. TellsReasons c.args.values (accepted p) files (string_bytes text)))
+    (λ reply h. if_some_map reply.reason (λ text. TellsEach (IsStateLine files) reasons (string_bytes text))
+    (λ text. TellsReasons c.args.values (accepted p) files (string_bytes text))
+    (λ text t. tells_reasons c.args.values c.record_of-record.result.values (accepted p) files c.in-State.state reasons from
+    c.record_of-record.ensures refl (string_bytes text) t) h)
     c.state_reply.ensures.reason
 
 pub returns-clause-counted : goal.returns-clause-counted

@@ -1,10 +1,13 @@
 use Rattle.std.proofs.Common.{◌∙◌, Bool, ap, sym, subst, refl}
-use Rattle.std.specs.Prelude.{Err}
+use Rattle.std.specs.Prelude.{Err, ◌++◌}
 use Rattle.std.proofs.lemmas.Result.{err_from_is_err_and}
 use Rattle.outside.specs.Told.{Appends, AppendsShort}
 use Rattle.pap_cli.specs.Statuses.{status_of}
-use Rattle.script_run.specs.Notes.{notes_shown}
-use Rattle.pap_cli.specs.Notes.{telling}
+use Rattle.open_runs.specs.OpenRuns.{open_line}
+use Rattle.recalc_engine.specs.MonthRows.{month_rows}
+use Rattle.script_steps.specs.Steps.{Standing}
+use Rattle.script_run.specs.Notes.{AreNoted, notes_shown}
+use Rattle.pap_cli.specs.Notes.{refused_summary, telling}
 use Rattle.pap_cli.specs.Outside.{objects, outside_of}
 use Rattle.pap_cli.specs.SaveAnswers.{IsSave, was_filed}
 use Rattle.pap_cli.specs.SaveClauses.{LeavesOnSave}
@@ -25,7 +28,13 @@ returns-in-Ok-put_all-clause-leaves g c =
     c.in-Ok.ensures.script c.in-Ok.ensures.standing
     (subst (λ (r : Bool). IsSave r (was_filed ended.script) ended.refusals.items ended.script.book (written_of reply))
     c.any.ensures c.in_ok-reply.ensures)
-    c.in_ok-sum_up.ensures (c.in-Ok.ensures.kept (λ e. cc))
+    (record {
+      book = ended.script.book;
+      leaves = λ script left files told. let ends = c.in-Ok.ensures.standing script left files told in
+          record { session = ends.session; is = ends.is; book_is = ap (λ (s : Standing). s.book) (sym ends.left) };
+      put = subst (λ b. AreNoted (notes_shown g.N.Sink c.run_unwritten.new.notes) (notes_shown g.N.Sink c.sum_up.new.notes)
+          (refused_summary ended.counts.refused ++ open_line (month_rows b))) c.book.ensures c.in_ok-sum_up.ensures;
+    }) (c.in-Ok.ensures.kept (λ e. cc))
     (subst (λ t. Appends before.written after.written t) c.deref.ensures.value c.in-Ok-put_all.ensures.ok)
 
 pub returns-clause-leaves : goal.returns-clause-leaves
@@ -41,7 +50,13 @@ returns-clause-leaves g c =
     c.in-Ok.ensures.script c.in-Ok.ensures.standing
     (subst (λ (r : Bool). IsSave r (was_filed ended.script) ended.refusals.items ended.script.book (written_of reply))
     c.any.ensures c.in_ok-reply.ensures)
-    c.in_ok-sum_up.ensures (c.in-Ok.ensures.kept (λ e. cc))
+    (record {
+      book = ended.script.book;
+      leaves = λ script left files told. let ends = c.in-Ok.ensures.standing script left files told in
+          record { session = ends.session; is = ends.is; book_is = ap (λ (s : Standing). s.book) (sym ends.left) };
+      put = subst (λ b. AreNoted (notes_shown g.N.Sink c.run_unwritten.new.notes) (notes_shown g.N.Sink c.sum_up.new.notes)
+          (refused_summary ended.counts.refused ++ open_line (month_rows b))) c.book.ensures c.in_ok-sum_up.ensures;
+    }) (c.in-Ok.ensures.kept (λ e. cc))
     (subst (λ t. AppendsShort before.written after.written t) c.deref.ensures.value c.in-Err-put_all.ensures.err)
 
 pub returns-in-Err-clause-leaves : goal.returns-in-Err-clause-leaves

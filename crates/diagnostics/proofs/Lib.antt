@@ -1,0 +1,3 @@
+mod LineLemmas
+mod ReasonLemmas
+pub mod Laws

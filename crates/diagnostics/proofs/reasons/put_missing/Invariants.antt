@@ -1,0 +1,6 @@
+use Rattle.std.proofs.Common.{◌≡◌, ◌++◌, take}
+use Rattle.diagnostics.specs.RunReasons.{missing_reasons}
+use Rattle.diagnostics.proofs.reasons.put_missing.Given as goal
+
+abbrev pub invariant-loop-slot : goal.invariant-loop-slot
+invariant-loop-slot l = l.reasons.items ≡ l.initial.reasons.items ++ missing_reasons (take l.slot-index l.slots) l.values

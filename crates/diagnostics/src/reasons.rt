@@ -1,0 +1,122 @@
+//! All reasons why a run has no inputs.
+ghost use Rattle.std.specs.Prelude.{◌≡◌, ◌∷◌, ◌++◌, [], IfOk, OnOk, if◌then◌else◌, not, is_none, true};
+ghost use Rattle.std.specs.Option.{option_map_or};
+ghost use Rattle.carry_bindings.specs.Filling.{fits, takes, value_of};
+ghost use Rattle.diagnostics.specs.RunReasons.{missing_reasons, outside_reasons, run_reasons, unknown_reasons, FirstReasonIsNamed};
+ghost use Rattle.pay_run.specs.Accepted.{accepted};
+
+use carry_bindings::Blocked;
+use limits_file::Slot;
+use pap_plan::Plan;
+use pap_tree::Name;
+use payroll_records::Values;
+use scaled_decimal::Dec;
+use std::alloc::{AllocError, Global};
+
+/// All reasons why a run of a plan on these values, without earlier runs, has no inputs: each value that no input takes, then each input
+/// without a value, then each whose value is outside its range. None where it has inputs. It takes time in proportion to the values
+/// times the inputs, of which there are at most 256 each. Fails only for lack of memory.
+pub fn run_reasons(alloc: Global, plan: &Plan, values: &Values) -> Result<Vec<Blocked>, AllocError>
+    ensures { IfOk result
+        (λ reasons. reasons.items ≡ run_reasons (accepted plan.now) values.now) }
+{
+    let slots = plan.spec().slots.as_slice();
+    let mut reasons = Vec::new(alloc);
+    put_unknown(&mut reasons, slots, values)?;
+    put_missing(&mut reasons, slots, values)?;
+    put_outside(&mut reasons, slots, values)?;
+    Ok(reasons)
+}
+
+/// Appends a reason for each value that no input takes.
+fn put_unknown(
+    reasons: &mut Vec<Blocked>,
+    slots: &[Slot],
+    values: &Values,
+) -> Result<(), AllocError>
+    ensures { OnOk result (reasons.new.items
+        ≡ reasons.old.items ++ unknown_reasons slots.now values.now) }
+{
+    for name in values.names() {
+        put_if(reasons, !takes(slots, name), Blocked::Unknown(*name))?;
+    }
+    Ok(())
+}
+
+/// Appends a reason for each input without a value.
+fn put_missing(
+    reasons: &mut Vec<Blocked>,
+    slots: &[Slot],
+    values: &Values,
+) -> Result<(), AllocError>
+    ensures { OnOk result (reasons.new.items
+        ≡ reasons.old.items ++ missing_reasons slots.now values.now) }
+{
+    for slot in slots {
+        let value = value_of(values, slot);
+        put_if(reasons, value.is_none(), Blocked::Missing(slot.name))?;
+    }
+    Ok(())
+}
+
+/// Appends a reason for each input whose value is outside its range.
+fn put_outside(
+    reasons: &mut Vec<Blocked>,
+    slots: &[Slot],
+    values: &Values,
+) -> Result<(), AllocError>
+    ensures { OnOk result (reasons.new.items
+        ≡ reasons.old.items ++ outside_reasons slots.now values.now) }
+{
+    for slot in slots {
+        let inside = is_inside(values, slot);
+        put_if(reasons, !inside, Blocked::Range(slot.name))?;
+    }
+    Ok(())
+}
+
+/// Appends a reason where it is one.
+fn put_if(reasons: &mut Vec<Blocked>, is_one: bool, reason: Blocked) -> Result<(), AllocError>
+    ensures { OnOk result (reasons.new.items
+        ≡ reasons.old.items ++ (if is_one then reason ∷ [] else [])) }
+{
+    if is_one {
+        reasons.push(reason)?;
+    }
+    Ok(())
+}
+
+/// Whether an input of this name takes a value: it doesn't carry.
+fn takes(slots: &[Slot], name: &Name) -> bool
+    ensures { result ≡ takes slots.now name.now }
+{
+    slots
+        .iter()
+        .any(|slot| slot.name == *name && slot.carry.is_none())
+}
+
+/// The value of an input without earlier runs: 0 where it carries, and else the record's or its default.
+fn value_of(values: &Values, slot: &Slot) -> Option<Dec>
+    ensures { result ≡ value_of values.now [] slot.now }
+{
+    if slot.carry.is_some() {
+        return Some(Dec::new(0, 0));
+    }
+    values.find(&slot.name).or(slot.value)
+}
+
+/// Whether the value of an input, where it has one, is inside its range.
+fn is_inside(values: &Values, slot: &Slot) -> bool
+    ensures { result
+        ≡ option_map_or (fits slot.now.limit) (value_of values.now [] slot.now) true }
+{
+    match value_of(values, slot) {
+        Some(value) => slot.limit.fits(value),
+        None => true,
+    }
+}
+
+/// A law, with nothing to run: the first of all reasons is the one with which `once` is refused.
+pub fn reason_laws()
+    ensures { FirstReasonIsNamed }
+{}
