@@ -1,2 +1,3 @@
 pub mod AlignmentViews
+pub mod NameViews
 pub mod OutlineViews

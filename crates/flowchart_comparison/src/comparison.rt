@@ -1,7 +1,7 @@
 //! The comparison of two flowcharts.
 ghost use Rattle.std.specs.Prelude.{◌≡◌, IfOk, map, All};
-ghost use Rattle.flowchart_comparison.specs.Comparisons.{IsComparison, AreLinesTold, item_texts, line_texts, texts_in, lines_text, method_text, is_same, is_kept, method_name, differs};
-ghost use Rattle.flowchart_comparison.specs.Entries.{IsPairing};
+ghost use Rattle.flowchart_comparison.specs.Comparisons.{IsComparison, AreLinesTold, item_names, item_texts, lined_names, line_texts, texts_in, lines_text, method_text, is_same, is_kept, method_name, differs};
+ghost use Rattle.flowchart_comparison.specs.Entries.{IsPairing, PairsNames};
 ghost use Rattle.std.specs.List.{list_all};
 
 use crate::alignment::align;
@@ -46,8 +46,8 @@ impl Model for Comparison {
 }
 
 /// Compares two flowcharts: declarations are paired by their names; methods by their names too, and a method of a new name with a
-/// gone one of the same lines; the lines of paired methods are aligned. Takes time nearly linear in the statements. Fails only for
-/// lack of memory.
+/// gone one of the same lines; the lines of paired methods are aligned, and what both begin with is the same. Takes time nearly linear
+/// in the statements. Fails only for lack of memory.
 pub fn compare(alloc: Global, old: &Outline, new: &Outline) -> Result<Comparison, AllocError>
     ensures { IfOk result (λ c. IsComparison old.now new.now c) }
 {
@@ -66,8 +66,10 @@ pub fn compare(alloc: Global, old: &Outline, new: &Outline) -> Result<Comparison
 
 /// The pairs of declarations.
 fn pair_items(alloc: Global, old: &[Item], new: &[Item]) -> Result<Vec<Entry>, AllocError>
-    ensures { IfOk result (λ pairs.
+    ensures paired { IfOk result (λ pairs.
         IsPairing (item_texts old.now) (item_texts new.now) pairs.items) }
+    ensures by_name { IfOk result (λ pairs.
+        PairsNames (item_names old.now) (item_names new.now) pairs.items) }
 {
     let proposed = same_names(alloc, old, new)?;
     pair_up(alloc, old, new, &proposed)
@@ -75,8 +77,10 @@ fn pair_items(alloc: Global, old: &[Item], new: &[Item]) -> Result<Vec<Entry>, A
 
 /// The pairs of items by their names or their texts.
 fn pair_texts(alloc: Global, old: &[Item], new: &[Item]) -> Result<Vec<Entry>, AllocError>
-    ensures { IfOk result (λ pairs.
+    ensures paired { IfOk result (λ pairs.
         IsPairing (item_texts old.now) (item_texts new.now) pairs.items) }
+    ensures by_name { IfOk result (λ pairs.
+        PairsNames (item_names old.now) (item_names new.now) pairs.items) }
 {
     let proposed = same_names_or_texts(alloc, old, new)?;
     pair_up(alloc, old, new, &proposed)
@@ -88,8 +92,10 @@ fn pair_methods(
     old: &[MethodOutline],
     new: &[MethodOutline],
 ) -> Result<Vec<Entry>, AllocError>
-    ensures { IfOk result (λ pairs.
+    ensures paired { IfOk result (λ pairs.
         IsPairing (map method_text old.now) (map method_text new.now) pairs.items) }
+    ensures by_name { IfOk result (λ pairs.
+        PairsNames (lined_names old.now) (lined_names new.now) pairs.items) }
 {
     let old = whole_texts(alloc, old)?;
     let new = whole_texts(alloc, new)?;
@@ -98,7 +104,8 @@ fn pair_methods(
 
 /// The methods, each with its whole text.
 fn whole_texts(alloc: Global, methods: &[MethodOutline]) -> Result<Vec<Item>, AllocError>
-    ensures { IfOk result (λ items. item_texts items.items ≡ map method_text methods.now) }
+    ensures texts { IfOk result (λ items. item_texts items.items ≡ map method_text methods.now) }
+    ensures names { IfOk result (λ items. item_names items.items ≡ lined_names methods.now) }
 {
     let mut items = Vec::with_capacity(alloc, methods.len())?;
     for method in methods {

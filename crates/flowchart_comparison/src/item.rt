@@ -35,6 +35,13 @@ impl Item {
         self.name
     }
 
+    /// The bytes of its name.
+    pub(crate) fn name_bytes(&self) -> &[u8]
+        ensures { result.now ≡ self.now.name }
+    {
+        self.name.bytes()
+    }
+
     /// The text of the declaration.
     pub fn text(&self) -> &[u8]
         ensures { result.now ≡ self.now.text }

@@ -1,9 +1,11 @@
 //! The pairs of two lists whose order may differ.
 ghost use Rattle.std.specs.Prelude.{◌≡◌, ◌<◌, ◌∷◌, [], ◌++◌, false, IfOk, OnOk, length, slice_index_or};
-ghost use Rattle.flowchart_comparison.specs.Comparisons.{item_texts};
-ghost use Rattle.flowchart_comparison.specs.Entries.{IsPairing, IsTold, old_place, new_of};
-ghost use Rattle.flowchart_comparison.specs.private.AlignmentViews.{AreFlags, IsTaken, gone_where};
+ghost use Rattle.flowchart_comparison.specs.Comparisons.{item_names, item_texts};
+ghost use Rattle.flowchart_comparison.specs.Entries.{IsPairing, IsTold, PairsNames, old_place, new_of};
+ghost use Rattle.flowchart_comparison.specs.private.AlignmentViews.{AreFlags, IsTaken, free_one, gone_where};
+ghost use Rattle.flowchart_comparison.specs.private.NameViews.{ProposesPartners};
 
+use crate::proposals::proposal_at;
 use crate::{Entry, Item};
 use std::alloc::{AllocError, Global};
 
@@ -15,8 +17,11 @@ pub(crate) fn pair_up(
     new: &[Item],
     proposed: &[Option<usize>],
 ) -> Result<Vec<Entry>, AllocError>
-    ensures { IfOk result (λ entries.
+    requires { ProposesPartners (item_names old.now) (item_names new.now) proposed.now }
+    ensures paired { IfOk result (λ entries.
         IsPairing (item_texts old.now) (item_texts new.now) entries.items) }
+    ensures by_name { IfOk result (λ entries.
+        PairsNames (item_names old.now) (item_names new.now) entries.items) }
 {
     let mut free = all_free(alloc, old.len())?;
     pair_free(alloc, old, new, proposed, &mut free)
@@ -30,13 +35,16 @@ fn pair_free(
     proposed: &[Option<usize>],
     free: &mut [bool],
 ) -> Result<Vec<Entry>, AllocError>
-    requires { AreFlags (length old.now) free.old }
-    ensures { IfOk result (λ entries.
+    requires flags { AreFlags (length old.now) free.old }
+    requires partners { ProposesPartners (item_names old.now) (item_names new.now) proposed.now }
+    ensures paired { IfOk result (λ entries.
         IsPairing (item_texts old.now) (item_texts new.now) entries.items) }
+    ensures by_name { IfOk result (λ entries.
+        PairsNames (item_names old.now) (item_names new.now) entries.items) }
 {
     let mut entries = Vec::with_capacity(alloc, new.len())?;
     for new_place in 0..new.len() {
-        let proposal = proposed.get(new_place).copied().flatten();
+        let proposal = proposal_at(proposed, new_place);
         let entry = pair_new(old, new, free, proposal, new_place);
         entries.push(entry)?;
     }
@@ -71,6 +79,7 @@ fn pair_new(
     ensures told { IsTold (item_texts old.now) (item_texts new.now) result }
     ensures new_of { new_of result ≡ place ∷ [] }
     ensures taken { IsTaken free.old free.new (old_place result) }
+    ensures proposed { old_place result ≡ free_one free.old proposal }
 {
     match take_free(free, proposal) {
         Some(partner) => tell(old, new, partner, place),
@@ -91,7 +100,8 @@ fn all_free(alloc: Global, count: usize) -> Result<Vec<bool>, AllocError>
 
 /// The proposed place where it is free; it isn't free from then on.
 fn take_free(free: &mut [bool], proposal: Option<usize>) -> Option<usize>
-    ensures { IsTaken free.old free.new result }
+    ensures taken { IsTaken free.old free.new result }
+    ensures proposed { result ≡ free_one free.old proposal }
 {
     let place = proposal?;
     if place >= free.len() || !free[place] {

@@ -1,0 +1,9 @@
+use Rattle.std.proofs.Common.{sym, subst}
+use Rattle.flowchart_comparison.specs.Comparisons.{item_names}
+use Rattle.flowchart_comparison.specs.private.NameViews.{ProposesPartners}
+use Rattle.flowchart_comparison.proofs.comparison.pair_texts.Goals as goal
+
+pub pair_up-requires : goal.pair_up-requires
+pair_up-requires c =
+    subst (λ l. ProposesPartners (item_names c.args.old.now) (item_names c.args.new.now) l) (sym c.deref.ensures.value)
+    c.in_ok-proposed.ensures
