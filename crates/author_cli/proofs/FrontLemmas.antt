@@ -20,7 +20,8 @@ use Rattle.plain_words.specs.Refusals.{TellsPlan}
 use Rattle.flowchart_page.specs.Verdicts.{file_or_none, files_with, IsJudged}
 use Rattle.flowchart_methods.specs.declared.site.Site.{Site}
 use Rattle.flowchart_page.specs.Findings.{Finding, accepted, in_order, refused, IsFound}
-use Rattle.flowchart_page.specs.Pages.{AreLimits, IsPlanTable, AreTreeTexts, ArePlanTexts, Says, Shows, IsPage}
+use Rattle.flowchart_page.specs.Runs.{RunParts}
+use Rattle.flowchart_page.specs.Pages.{AreLimits, IsPlanTable, AreTreeTexts, ArePlanTexts, Says, Shows, IsRunPage, IsPage}
 use Rattle.author_cli.specs.Words.{chart, chart_within, ranges, compared, traced}
 use Rattle.author_cli.specs.Compared.{IsUnreadable, IsCompared}
 use Rattle.author_cli.specs.Traced.{IsToldRun, IsBlockedRun, IsRefusedRun, IsTraced}
@@ -150,9 +151,9 @@ module _ (n m : ℕ) (more_plan : 1048576 < n) (more_limits : 262144 < m) where
       table = h.table;
     }
 
-    tree_front : (tree : ElementTree) (texts : List (List ℕ)) → IsElements (take n plan) tree
-        → AreTreeTexts (take n plan) part finding site tree texts → AreTreeTexts plan file finding site tree texts
-    tree_front tree texts e h = record {
+    tree_front : (run : Option RunParts) (tree : ElementTree) (texts : List (List ℕ)) → IsElements (take n plan) tree
+        → AreTreeTexts run (take n plan) part finding site tree texts → AreTreeTexts run plan file finding site tree texts
+    tree_front run tree texts e h = record {
       names = h.names;
       table = h.table;
       is_table = table_front tree h.table e h.is_table;
@@ -161,24 +162,24 @@ module _ (n m : ℕ) (more_plan : 1048576 < n) (more_limits : 262144 < m) where
       is = h.is;
     }
 
-    texts_front : (texts : List (List ℕ)) → ArePlanTexts (take n plan) part finding site texts
-        → ArePlanTexts plan file finding site texts
-    texts_front texts (inl h) = inl (h.0, elements_front plan h.0 h.1, tree_front h.0 texts h.1 h.2)
-    texts_front texts (inr h) = inr (h.0, fault_front plan h.0 h.1, h.2, h.3)
+    texts_front : (run : Option RunParts) (texts : List (List ℕ)) → ArePlanTexts run (take n plan) part finding site texts
+        → ArePlanTexts run plan file finding site texts
+    texts_front run texts (inl h) = inl (h.0, elements_front plan h.0 h.1, tree_front run h.0 texts h.1 h.2)
+    texts_front run texts (inr h) = inr (h.0, fault_front plan h.0 h.1, h.2, h.3)
 
-    shown_front : (said page : List ℕ) → Shows (take n plan) part finding site said page
-        → Shows plan file finding site said page
-    shown_front said page h = record { texts = h.texts; are_texts = texts_front h.texts h.are_texts; whole = h.whole }
+    shown_front : (run : Option RunParts) (said page : List ℕ) → Shows run (take n plan) part finding site said page
+        → Shows run plan file finding site said page
+    shown_front run said page h = record { texts = h.texts; are_texts = texts_front run h.texts h.are_texts; whole = h.whole }
 
-  page_front : (plan limits : List ℕ) (words : Option (List ℕ)) (page : List ℕ)
-      → IsPage (take n plan) (Some (take m limits)) words page → IsPage plan (Some limits) words page
-  page_front plan limits words page h = record {
+  page_front : (run : Option RunParts) (plan limits : List ℕ) (words : Option (List ℕ)) (page : List ℕ)
+      → IsRunPage run (take n plan) (Some (take m limits)) words page → IsRunPage run plan (Some limits) words page
+  page_front run plan limits words page h = record {
     finding = h.finding;
     found = found_front plan limits h.finding h.found;
     site = h.site;
     verdict = h.verdict;
     says = says_front plan h.finding words h.site h.verdict h.says;
-    shown = shown_front plan (Some (take m limits)) (Some limits) (limits_front limits) h.finding h.site h.verdict page h.shown;
+    shown = shown_front plan (Some (take m limits)) (Some limits) (limits_front limits) h.finding h.site run h.verdict page h.shown;
   }
 
   page_alone : (plan : List ℕ) (words : Option (List ℕ)) (page : List ℕ) → IsPage (take n plan) None words page
@@ -189,13 +190,13 @@ module _ (n m : ℕ) (more_plan : 1048576 < n) (more_limits : 262144 < m) where
     site = h.site;
     verdict = h.verdict;
     says = says_front plan h.finding words h.site h.verdict h.says;
-    shown = shown_front plan None None (λ l said. said) h.finding h.site h.verdict page h.shown;
+    shown = shown_front plan None None (λ l said. said) h.finding h.site None h.verdict page h.shown;
   }
 
   chart_front : (plan limits : NamedText) (a : Answer) → IsChart (front n plan) (Some (front m limits)) a
       → IsChart plan (Some limits) a
   chart_front plan limits a h = record {
-    page = page_front plan.bytes limits.bytes a.reason a.text h.page;
+    page = page_front None plan.bytes limits.bytes a.reason a.text h.page;
     judged = judged_front plan limits a.reason h.judged;
   }
 

@@ -17,6 +17,7 @@ use crate::measures::{
     BOX_SIDE, HIGHEST_BOX, LEAST_ROOM, STATEMENT_GAP, STEP, TEST_SIDE, WIDEST_ROOM,
 };
 use crate::note::Note;
+use crate::passage::{Passage, passage_at};
 use crate::px::Px;
 use crate::statement::{Call, Site, Statement};
 use pap_expr::{ExprFault, parse_assign, parse_expr};
@@ -36,13 +37,15 @@ pub struct MethodText {
 }
 
 /// The statements of a method, in the order of the file, with numbers from 0. The walk stands behind its start tag: the comments
-/// before each tag come from there. `refused` is the number of the statement for which the plan is refused.
-pub fn read_method(
+/// before each tag come from there. `refused` is the number of the statement for which the plan is refused, and `passages` says by
+/// their numbers what a run did at the statements, none where there is no run.
+pub fn read_method<'a>(
     alloc: Global,
     name: Name,
     statements: &[RawStmt],
-    walk: Walk<'_>,
+    walk: Walk<'a>,
     refused: Option<u32>,
+    passages: &'a [Passage],
 ) -> Result<MethodText, AllocError>
     ensures name { IfOk result (λ method. method.name ≡ name) }
     ensures statements { IfOk result (λ method.
@@ -58,6 +61,7 @@ pub fn read_method(
         method: name,
         walk,
         numbering: Numbering { next: 0, refused },
+        passages,
     };
     let mut figures = Vec::new(alloc);
     builder.body(statements, 0, &mut figures)?;
@@ -75,6 +79,8 @@ struct Builder<'a> {
     method: Name,
     walk: Walk<'a>,
     numbering: Numbering,
+    /// What a run did at the statements, by their numbers.
+    passages: &'a [Passage],
 }
 
 /// The numbers of a method's statements.
@@ -252,6 +258,7 @@ impl Builder<'_> {
             number,
             is_refused,
             chars: name.saturating_add(digits(number)).saturating_add(signs),
+            passage: passage_at(self.passages, number),
         }
     }
 }

@@ -50,6 +50,8 @@ pub struct Stroke {
     pub y: Px,
     /// Where it ends: its `y` if it is vertical, else its `x`.
     pub end: Px,
+    /// A run went along it.
+    pub is_taken: bool,
 }
 
 /// An arrowhead, by its point.
@@ -59,6 +61,8 @@ pub struct Head {
     pub y: Px,
     /// It points to the left, at a join; else down, at an entry.
     pub is_left: bool,
+    /// A run came there.
+    pub is_taken: bool,
 }
 
 /// A symbol or a word. `x` is the left edge, of a comment and a word the place of the text.

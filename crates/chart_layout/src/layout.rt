@@ -23,15 +23,21 @@ use crate::measures::{
     STEP, SYMBOL_GAP, TERMINATOR_HEIGHT, TERMINATOR_SIDE, WORD_CHAR, WORD_DROP, WORD_SIDE,
 };
 use crate::note::Note;
+use crate::passage::Passage;
 use crate::pen::Pen;
 use crate::px::{Px, tenths};
 use crate::statement::{Call, Statement};
 use pap_tree::Name;
 use std::alloc::{AllocError, Global};
 
-/// The drawing of a method. Takes time linear in its statements.
+/// The drawing of a method, with what a run did at its statements by their numbers: none where there is no run. Takes time linear in
+/// its statements.
 #[tactic(auto, using(crate::proofs::DrawnLemmas::by_parts))]
-pub fn draw(alloc: Global, method: &MethodText) -> Result<Drawing<'_>, AllocError>
+pub fn draw<'a>(
+    alloc: Global,
+    method: &'a MethodText,
+    passages: &'a [Passage],
+) -> Result<Drawing<'a>, AllocError>
     ensures statements { IfOk result (λ drawing.
         drawing_statements drawing.parts.items ≡ body_statements method.now.body) }
     // Each way of a test has its word.
@@ -41,7 +47,7 @@ pub fn draw(alloc: Global, method: &MethodText) -> Result<Drawing<'_>, AllocErro
     ensures leads { IfOk result (λ drawing.
         drawing.leads.items ≡ method_lines (shown method.now.body)) }
 {
-    let mut pen = Pen::new(alloc);
+    let mut pen = Pen::new(alloc, passages);
     let height = pen.method(method)?;
     Ok(Drawing {
         width: method_width(method),
@@ -167,7 +173,8 @@ impl<'a> Pen<'a> {
         let mut rail = Rail::new(self.alloc, x);
         let end = self.body(&method.body, x, below, End::Spine, &mut rail)?;
         let y = end.y + SYMBOL_GAP;
-        self.enter(x + SPINE, end.from, y)?;
+        let is_taken = self.is_taken(&end.exits);
+        self.enter(x + SPINE, end.from, y, is_taken)?;
         self.lead(&end.exits, Entry::End)?;
         self.row(Row::End {
             x,
@@ -196,7 +203,8 @@ impl<'a> Pen<'a> {
             self.begin_part(cut)?;
         }
         self.note(x, spot)?;
-        self.enter(x + SPINE, spot.from, y)?;
+        let is_taken = self.is_taken(&spot.exits);
+        self.enter(x + SPINE, spot.from, y, is_taken)?;
         Ok(y)
     }
 
@@ -472,8 +480,9 @@ impl<'a> Pen<'a> {
             s.exits.items (leaving (at_way fork.test word ∷ []) (shown branch.now))) }
     {
         let y = fork.bottom + BRANCH_DROP;
-        self.vertical(fork.side(), fork.bottom, y)?;
         let way = one(self.alloc, fork.way(word))?;
+        let is_taken = self.is_taken(&way);
+        self.vertical(fork.side(), fork.bottom, y, is_taken)?;
         self.body(branch, fork.x + STEP, Spot::at(y, way), end, rail)
     }
 
@@ -512,11 +521,13 @@ impl<'a> Pen<'a> {
             ≡ with_other word end.entry.exits.items (at_way fork.test (other_word word) ∷ [])) }
     {
         let y = end.y + JOIN_GAP;
-        self.vertical(fork.side(), end.from, y)?;
-        self.vertical(fork.spine(), fork.bottom, y)?;
-        self.horizontal(fork.spine(), y, fork.side())?;
-        self.head(fork.spine(), y, true)?;
         let down = one(self.alloc, fork.way(other(word)))?;
+        let comes_back = self.is_taken(&end.exits);
+        let goes_down = self.is_taken(&down);
+        self.vertical(fork.side(), end.from, y, comes_back)?;
+        self.vertical(fork.spine(), fork.bottom, y, goes_down)?;
+        self.horizontal(fork.spine(), y, fork.side(), comes_back)?;
+        self.head(fork.spine(), y, true, comes_back)?;
         let exits = match word {
             Word::No => both(down, &end.exits)?,
             Word::Yes | Word::YesOrNo => both(end.exits, &down)?,
@@ -534,7 +545,10 @@ impl<'a> Pen<'a> {
         ensures exits { IfOk result (λ s. s.exits.items ≡ at_way fork.test Yes ∷ (at_way fork.test No ∷ [])) }
     {
         let y = fork.bottom + EITHER_DROP;
-        self.vertical(fork.spine(), fork.bottom, y)?;
+        let mut ways = one(self.alloc, fork.way(Word::Yes))?;
+        ways.push(fork.way(Word::No))?;
+        let is_taken = self.is_taken(&ways);
+        self.vertical(fork.spine(), fork.bottom, y, is_taken)?;
         self.row(Row::Word {
             x: fork.spine() + WORD_SIDE,
             y: fork.bottom + WORD_DROP,
@@ -542,8 +556,6 @@ impl<'a> Pen<'a> {
             word: Word::YesOrNo,
             anchor: Anchor::Begins,
         })?;
-        let mut ways = one(self.alloc, fork.way(Word::Yes))?;
-        ways.push(fork.way(Word::No))?;
         Ok(Spot::at(y, ways))
     }
 
@@ -590,7 +602,7 @@ impl<'a> Pen<'a> {
         } else {
             end.y + RAIL_JOIN_GAP
         };
-        self.close_rail(&rail, x + SPINE, end.from, y)?;
+        self.close_rail(&rail, x + SPINE, end.from, y, &end.exits)?;
         let exits = both(rail.exits, &end.exits)?;
         Ok(Spot::at(y, exits))
     }
@@ -716,7 +728,8 @@ impl<'a> Pen<'a> {
             JOIN_GAP
         };
         let y = end.y + gap;
-        self.vertical(fork.side(), end.from, y)?;
+        let is_taken = self.is_taken(&end.exits);
+        self.vertical(fork.side(), end.from, y, is_taken)?;
         self.leave_branch(fork, y, end.exits, rail, is_closing)
     }
 
@@ -738,13 +751,14 @@ impl<'a> Pen<'a> {
             s.exits.items exits.items (at_way fork.test No ∷ [])) }
     {
         let down = one(self.alloc, fork.way(Word::No))?;
+        let is_taken = self.is_taken(&down);
         if is_closing {
-            self.vertical(fork.spine(), fork.bottom, y)?;
+            self.vertical(fork.spine(), fork.bottom, y, is_taken)?;
             return Ok(Spot::at(y, both(exits, &down)?));
         }
         self.meet_rail(rail, fork.side(), y, &exits)?;
         let end = y + BELOW_RAIL;
-        self.vertical(fork.spine(), fork.bottom, end)?;
+        self.vertical(fork.spine(), fork.bottom, end, is_taken)?;
         Ok(Spot::at(end, down))
     }
 }

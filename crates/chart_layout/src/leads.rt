@@ -45,6 +45,8 @@ pub(crate) struct Rail {
     pub x: Px,
     /// Where the first branch meets it.
     pub top: Option<Px>,
+    /// Where the first branch meets it along which a run went.
+    pub taken: Option<Px>,
     /// The exits whose lines have met it.
     pub exits: Vec<Exit>,
 }
@@ -57,6 +59,7 @@ impl Rail {
         Rail {
             x,
             top: None,
+            taken: None,
             exits: Vec::new(alloc),
         }
     }

@@ -14,6 +14,7 @@ mod leads;
 mod lines;
 mod measures;
 mod note;
+mod passage;
 mod pen;
 mod pieces;
 mod px;
@@ -27,10 +28,11 @@ pub use layout::draw;
 pub use leads::{Entry, Exit, Lead, Way};
 pub use lines::Line;
 pub use measures::{
-    BOX_SIDE, CALL_HEIGHT, CALL_SIDE, LINE_HEIGHT, NOTE_LINE, STATEMENT_GAP, TERMINATOR_HEIGHT,
-    TERMINATOR_SIDE, TEST_SIDE, TEXT_DROP,
+    BENEATH_INDENT, BOX_SIDE, CALL_HEIGHT, CALL_SIDE, LINE_HEIGHT, NOTE_LINE, STATEMENT_GAP,
+    TERMINATOR_HEIGHT, TERMINATOR_SIDE, TEST_SIDE, TEXT_DROP,
 };
 pub use note::Note;
+pub use passage::Passage;
 pub use pieces::Piece;
 pub use px::Px;
 pub use statement::{Call, Statement, Written};

@@ -12,6 +12,9 @@ pub const LINE_HEIGHT: Px = Px(18);
 /// How far a line is indented for each character.
 pub(crate) const INDENT: Px = Px(7);
 
+/// How far the lines below a statement's text are indented.
+pub const BENEATH_INDENT: Px = Px(28);
+
 /// The room between two statements of a box.
 pub const STATEMENT_GAP: Px = Px(4);
 

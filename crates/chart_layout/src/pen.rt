@@ -6,6 +6,7 @@ ghost use Rattle.chart_layout.specs.Leads.{leads, row_ways};
 
 use crate::drawing::{Head, Part, Row, Stroke};
 use crate::leads::{Entry, Exit, Lead, Rail};
+use crate::passage::{Passage, is_taken};
 use crate::px::Px;
 use std::alloc::{AllocError, Global};
 
@@ -15,11 +16,13 @@ pub(crate) struct Pen<'a> {
     pub alloc: Global,
     pub parts: Vec<Part<'a>>,
     pub leads: Vec<Lead>,
+    /// What a run did at the statements, by their numbers.
+    passages: &'a [Passage],
 }
 
 impl<'a> Pen<'a> {
     /// A pen that has drawn nothing.
-    pub(crate) fn new(alloc: Global) -> Pen<'a>
+    pub(crate) fn new(alloc: Global, passages: &'a [Passage]) -> Pen<'a>
         ensures rows { drawing_rows result.parts.items ≡ [] }
         ensures leads { result.leads.items ≡ [] }
     {
@@ -27,7 +30,13 @@ impl<'a> Pen<'a> {
             alloc,
             parts: Vec::new(alloc),
             leads: Vec::new(alloc),
+            passages,
         }
+    }
+
+    /// Whether a run left one of these exits.
+    pub(crate) fn is_taken(&self, exits: &[Exit]) -> bool {
+        is_taken(self.passages, exits)
     }
 
     /// Where a part begins.
@@ -84,7 +93,13 @@ impl<'a> Pen<'a> {
     }
 
     /// Draws a vertical line, cut where parts begin.
-    pub(crate) fn vertical(&mut self, x: Px, y: Px, end: Px) -> Result<(), AllocError>
+    pub(crate) fn vertical(
+        &mut self,
+        x: Px,
+        y: Px,
+        end: Px,
+        is_taken: bool,
+    ) -> Result<(), AllocError>
         ensures same { OnOk result (drawing_rows self.new.parts.items
             ≡ drawing_rows self.old.parts.items) }
         ensures leads { self.new.leads ≡ self.old.leads }
@@ -98,6 +113,7 @@ impl<'a> Pen<'a> {
                     x,
                     y: top.max(y),
                     end,
+                    is_taken,
                 },
             )?;
             if top <= y {
@@ -121,37 +137,65 @@ impl<'a> Pen<'a> {
     }
 
     /// Draws a horizontal line to the right.
-    pub(crate) fn horizontal(&mut self, x: Px, y: Px, end: Px) -> Result<(), AllocError>
+    pub(crate) fn horizontal(
+        &mut self,
+        x: Px,
+        y: Px,
+        end: Px,
+        is_taken: bool,
+    ) -> Result<(), AllocError>
         ensures same { OnOk result (drawing_rows self.new.parts.items
             ≡ drawing_rows self.old.parts.items) }
         ensures leads { self.new.leads ≡ self.old.leads }
     {
         if let Some(part) = self.parts.last_mut() {
-            part.horizontals.push(Stroke { x, y, end })?;
+            part.horizontals.push(Stroke {
+                x,
+                y,
+                end,
+                is_taken,
+            })?;
         }
         Ok(())
     }
 
     /// Draws an arrowhead.
-    pub(crate) fn head(&mut self, x: Px, y: Px, is_left: bool) -> Result<(), AllocError>
+    pub(crate) fn head(
+        &mut self,
+        x: Px,
+        y: Px,
+        is_left: bool,
+        is_taken: bool,
+    ) -> Result<(), AllocError>
         ensures same { OnOk result (drawing_rows self.new.parts.items
             ≡ drawing_rows self.old.parts.items) }
         ensures leads { self.new.leads ≡ self.old.leads }
     {
         if let Some(part) = self.parts.last_mut() {
-            part.heads.push(Head { x, y, is_left })?;
+            part.heads.push(Head {
+                x,
+                y,
+                is_left,
+                is_taken,
+            })?;
         }
         Ok(())
     }
 
     /// Draws the line into a symbol from above.
-    pub(crate) fn enter(&mut self, spine: Px, from: Px, y: Px) -> Result<(), AllocError>
+    pub(crate) fn enter(
+        &mut self,
+        spine: Px,
+        from: Px,
+        y: Px,
+        is_taken: bool,
+    ) -> Result<(), AllocError>
         ensures same { OnOk result (drawing_rows self.new.parts.items
             ≡ drawing_rows self.old.parts.items) }
         ensures leads { self.new.leads ≡ self.old.leads }
     {
-        self.vertical(spine, from, y)?;
-        self.head(spine, y, false)
+        self.vertical(spine, from, y, is_taken)?;
+        self.head(spine, y, false, is_taken)
     }
 
     /// Notes that these exits lead to an entry.
@@ -179,32 +223,45 @@ impl<'a> Pen<'a> {
         ensures leads { self.new.leads ≡ self.old.leads }
         ensures exits { OnOk result (rail.new.exits.items ≡ rail.old.exits.items ++ exits.now) }
     {
+        let is_taken = self.is_taken(exits);
         if rail.top.is_none() {
             rail.top = Some(y);
         }
+        if is_taken && rail.taken.is_none() {
+            rail.taken = Some(y);
+        }
         rail.exits.extend_from_slice(exits)?;
-        self.horizontal(x, y, rail.x)
+        self.horizontal(x, y, rail.x, is_taken)
     }
 
-    /// Draws the rest of a spine, and the rail that comes back to it.
+    /// Draws the rest of a spine, which these exits leave, and the rail that comes back to it.
     pub(crate) fn close_rail(
         &mut self,
         rail: &Rail,
         spine: Px,
         from: Px,
         y: Px,
+        exits: &[Exit],
     ) -> Result<(), AllocError>
         ensures same { OnOk result (drawing_rows self.new.parts.items
             ≡ drawing_rows self.old.parts.items) }
         ensures leads { self.new.leads ≡ self.old.leads }
     {
         if from < y {
-            self.vertical(spine, from, y)?;
+            let is_taken = self.is_taken(exits);
+            self.vertical(spine, from, y, is_taken)?;
         }
-        if let Some(top) = rail.top {
-            self.vertical(rail.x, top, y)?;
+        let is_taken = rail.taken.is_some();
+        let taken = rail.taken.unwrap_or(y);
+        if let Some(top) = rail.top
+            && top < taken
+        {
+            self.vertical(rail.x, top, taken, false)?;
         }
-        self.horizontal(spine, y, rail.x)?;
-        self.head(spine, y, true)
+        if is_taken {
+            self.vertical(rail.x, taken, y, true)?;
+        }
+        self.horizontal(spine, y, rail.x, is_taken)?;
+        self.head(spine, y, true, is_taken)
     }
 }

@@ -4,8 +4,10 @@ ghost use Rattle.chart_layout.specs.Drawn.{drawn, drawn_statement, drawn_call};
 
 use crate::lines::{Line, Room, break_lines};
 use crate::measures::{
-    BOX_SIDE, CALL_SIDE, CODE_CHAR, LINE_HEIGHT, PLACE_CHAR, PLACE_GAP, TEST_SIDE, TEXT_DROP,
+    BENEATH_INDENT, BOX_SIDE, CALL_SIDE, CODE_CHAR, LINE_HEIGHT, PLACE_CHAR, PLACE_GAP, TEST_SIDE,
+    TEXT_DROP,
 };
+use crate::passage::Passage;
 use crate::pieces::{Piece, read_pieces};
 use crate::px::{Px, tenths};
 use pap_tree::Name;
@@ -27,6 +29,8 @@ pub struct Statement {
     /// It is the one for which the plan is refused.
     pub is_refused: bool,
     pub written: Written,
+    /// How many lines stand below its text.
+    pub beneath: usize,
     /// The width of its text with its place.
     width: Px,
 }
@@ -51,6 +55,8 @@ pub(crate) struct Site {
     pub is_refused: bool,
     /// How many characters its place has, as `refused TARIFF:2`.
     pub chars: usize,
+    /// What a run did there.
+    pub passage: Passage,
 }
 
 impl Statement {
@@ -70,7 +76,8 @@ impl Statement {
         };
         let pieces = read_pieces(alloc, &text)?;
         let lines = break_lines(alloc, &pieces, room)?;
-        let width = text_width(&lines, beside);
+        let below = tenths(site.passage.chars, CODE_CHAR);
+        let width = text_width(&lines, beside).max(Px::of_tenths(below) + BENEATH_INDENT);
         Ok(Statement {
             number: site.number,
             is_refused: site.is_refused,
@@ -79,13 +86,19 @@ impl Statement {
                 pieces,
                 lines,
             },
+            beneath: site.passage.lines,
             width,
         })
     }
 
-    /// The height of its lines, of an empty text of one.
-    pub fn height(&self) -> Px {
+    /// The height of the lines of its text, of an empty text of one.
+    pub fn text_height(&self) -> Px {
         LINE_HEIGHT.times(self.written.lines.len().max(1))
+    }
+
+    /// The height of its lines, with those below its text.
+    pub fn height(&self) -> Px {
+        self.text_height() + LINE_HEIGHT.times(self.beneath)
     }
 
     /// The width of a box in which it stands alone.

@@ -98,11 +98,44 @@ table_templates =
     codes "</span>" ∷
     []
 
+-- of a run above the drawings: its inputs and outputs as tables, how many steps it took, and its statements in order
+abbrev pub run_templates : List (List ℕ)
+run_templates =
+    codes "<section id=\"run\"><h2>The run</h2>\n<div class=\"run\">" ∷
+    codes "<table><caption>Inputs</caption><thead><tr><th scope=\"col\">Name<th scope=\"col\">Value<th scope=\"col\">Given</tr></thead><tbody>\n" ∷
+    codes "<tr><th scope=\"row\">%<td class=\"num\">%<td>%</tr>\n" ∷
+    codes "</tbody></table>\n" ∷
+    codes "<table><caption>Outputs</caption><thead><tr><th scope=\"col\">Name<th scope=\"col\">Value</tr></thead><tbody>\n" ∷
+    codes "<tr><th scope=\"row\">%<td class=\"num\">%</tr>\n" ∷
+    codes "</div>\n<p>The run took % steps. A run takes at most %.</p>\n" ∷
+    codes "<h3>Its statements in order</h3>\n<ol class=\"run\">\n" ∷
+    codes "<li id=\"visit-%\"><a href=\"#%:%\">%:%</a> <span>%</span> <code>%</code> <em>%</em> <span>%</span></li>\n" ∷
+    codes "</ol>\n<p>% statements of the run are left out here: the text of the run has all.</p>\n<ol class=\"run\" start=\"%\">\n" ∷
+    codes "</ol></section>\n" ∷
+    codes "<p class=\"blocked\"><strong>No run.</strong> %.</p>\n<p><code>%</code></p></div></section>\n" ∷
+    []
+
+-- of a drawing in which the way of a run is marked
+abbrev pub marked_templates : List (List ℕ)
+marked_templates =
+    codes "</ul><p><a href=\"#declarations\">Declarations</a></p></nav><main class=\"traced\">\n" ∷
+    codes "<g id=\"%:%\" role=\"group\" aria-label=\"%:%%: %; %\" class=\"s ran\">" ∷
+    codes "<rect class=\"b ran\" x=\"%\" y=\"%\" width=\"%\" height=\"%\"/>" ∷
+    codes "<path class=\"d ran\" d=\"M% %l% -%h%l% %l-% %h-%z\"/>" ∷
+    codes "<text class=\"v\" x=\"%\" y=\"%\">%</text>" ∷
+    codes "<a href=\"#visit-%\"><text class=\"p\" x=\"%\" y=\"%\">%:%</text></a>" ∷
+    codes "<path aria-hidden=\"true\" class=\"l ran\" d=\"%\"/><path aria-hidden=\"true\" class=\"a ran\" d=\"%\"/>" ∷
+    codes "<text class=\"y ran\" x=\"%\" y=\"%\">%</text>" ∷
+    codes "<text class=\"e ran\" x=\"%\" y=\"%\">%</text>" ∷
+    []
+
 -- all of it
 abbrev pub own_templates : List (List ℕ)
 own_templates =
     text_templates
-    ++ (method_templates ++ (drawing_templates ++ (statement_templates ++ (index_templates ++ table_templates))))
+    ++ (method_templates
+    ++ (drawing_templates
+    ++ (statement_templates ++ (index_templates ++ (table_templates ++ (run_templates ++ marked_templates))))))
 
 -- this markup is the page's own
 abbrev pub is_own : List ℕ → Bool

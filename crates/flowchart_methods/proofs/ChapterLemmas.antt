@@ -2,7 +2,7 @@
 use Rattle.std.proofs.Common.{◌≡◌, ℕ, suc, Option, ◌+◌, ◌<◌, ◌≤◌, List, [], ◌∷◌, ◌++◌, length, take, map, get_or, refl, sym, ap, subst, ◌∙◌, append_assoc, arith, Global}
 use Rattle.std.specs.Prelude.{String, find}
 use Rattle.std.specs.List.{flat_map}
-use Rattle.std.proofs.lemmas.List.{append-nil, flat_map_more, map_push, take_more, take_all}
+use Rattle.std.proofs.lemmas.List.{append-nil, flat_map_more, length-map, length-take-le, map_push, take_more, take_all}
 use Rattle.pap_reader.specs.declared.elements.RawMethod.{RawMethod}
 use Rattle.pap_reader.specs.declared.elements.RawStmt.{RawStmt}
 use Rattle.pap_reader.specs.Trees.{RawRoutine, raw_body_of, raw_routine_of}
@@ -19,55 +19,67 @@ use Rattle.flowchart_methods.specs.declared.chapter.Chapter.{Chapter}
 use Rattle.flowchart_methods.specs.Turns.{AddsInTurn}
 use Rattle.flowchart_methods.specs.Sites.{NamedStatement, number_in}
 use Rattle.flowchart_methods.specs.Conditions.{conditions_of}
-use Rattle.flowchart_methods.specs.Captions.{heading, statement_captions, method_captions, AreCaptions}
+use Rattle.flowchart_methods.specs.Marks.{Marked, marks_at}
+use Rattle.flowchart_methods.specs.Captions.{heading, Beside, statement_captions, method_captions, beside_of, AreCaptionsFrom, AreCaptions}
 use Rattle.flowchart_methods.specs.Chapters.{chapter_captions, method_comments, AreCommented}
 use Rattle.flowchart_methods.specs.private.Chapters.{IsChapter}
 use Rattle.flowchart_methods.proofs.Laws.{adds_behind, adds_then}
 
-captions_push : (refused : Option NamedStatement) (ms : List RawRoutine) (m : RawRoutine) (captions more : List (List
-    ℕ))
-    → AreCaptions refused ms captions → AreCaptions refused (m ∷ []) more
-    → AreCaptions refused (ms ++ m ∷ []) (captions ++ more)
-captions_push refused [] m captions more first second = subst (λ l. AreCaptions refused (m ∷ []) (l ++ more)) (sym
-    first) second
-captions_push refused (n ∷ ms) m captions more first second = (
-  first.0,
-  first.1,
-  (
-    first.2.0 ++ more,
-    captions_push refused ms m first.2.0 more first.2.1 second,
-    ap (λ l. l ++ more) first.2.2 ∙ append_assoc (method_captions n.name (conditions_of n.body) first.0) first.2.0 more,
-  ),
-)
+captions_push : (k : ℕ) (refused : Option NamedStatement) (marks : List (List Marked)) (ms : List RawRoutine) (m : RawRoutine)
+    (captions more : List (List ℕ)) → AreCaptionsFrom k refused marks ms captions
+    → AreCaptionsFrom (k + length ms) refused marks (m ∷ []) more
+    → AreCaptionsFrom k refused marks (ms ++ m ∷ []) (captions ++ more)
+captions_push k refused marks [] m captions more first second =
+    let same : k + 0 ≡ k = omega arith in
+    subst (λ n. AreCaptionsFrom n refused marks (m ∷ []) (captions ++ more)) same
+    (subst (λ l. AreCaptionsFrom (k + 0) refused marks (m ∷ []) (l ++ more)) (sym first) second)
+captions_push k refused marks (n ∷ ms) m captions more first second =
+    let same : k + suc (length ms) ≡ k + 1 + length ms = omega arith in (
+      first.0,
+      first.1,
+      (
+        first.2.0 ++ more,
+        captions_push (k + 1) refused marks ms m first.2.0 more first.2.1
+            (subst (λ j. AreCaptionsFrom j refused marks (m ∷ []) more) same second),
+        ap (λ l. l ++ more) first.2.2
+            ∙ append_assoc (method_captions n.name (beside_of n.body (marks_at marks k)) first.0) first.2.0 more,
+      ),
+    )
 
-one_chapter : (refused : Option NamedStatement) (m : RawRoutine) (c : Chapter)
-    → IsChapter (number_in refused m.name) m.name m.body c
-    → AreCaptions refused (m ∷ []) (chapter_captions c)
-one_chapter refused m c is = (
+-- what stands beside the statements of a chapter
+abbrev pub beside_chapter : Chapter → Beside
+beside_chapter c = record { conditions = c.conditions.items; marks = c.marks.now }
+
+one_chapter : (k : ℕ) (refused : Option NamedStatement) (marks : List (List Marked)) (m : RawRoutine) (c : Chapter)
+    → IsChapter (number_in refused m.name) m.name m.body (marks_at marks k) c
+    → AreCaptionsFrom k refused marks (m ∷ []) (chapter_captions c)
+one_chapter k refused marks m c is = (
   body_statements c.text.body,
   is.1,
   (
     [],
     refl,
-    ap (λ n. method_captions n c.conditions.items (body_statements c.text.body)) is.0
-        ∙ ap (λ cs. method_captions m.name cs (body_statements c.text.body)) is.2
-        ∙ sym (append-nil (method_captions m.name (conditions_of m.body) (body_statements c.text.body))),
+    ap (λ n. method_captions n (beside_chapter c) (body_statements c.text.body)) is.0
+        ∙ ap (λ cs. method_captions m.name (record { conditions = cs; marks = c.marks.now }) (body_statements c.text.body)) is.2
+        ∙ ap (λ l. method_captions m.name (record { conditions = conditions_of m.body; marks = l }) (body_statements c.text.body)) is.3
+        ∙ sym (append-nil (method_captions m.name (beside_of m.body (marks_at marks k)) (body_statements c.text.body))),
   ),
 )
 
 -- the first method
-pub first_chapter : (refused : Option NamedStatement) (name main : List ℕ) (statements body : List RawStmt) (c :
-    Chapter)
-    (old new : List Chapter) → old ≡ [] → new ≡ old ++ c ∷ [] → name ≡ main → statements ≡ body
-    → IsChapter (number_in refused name) name (raw_body_of statements) c
-    → AreCaptions refused (record { name = main; body = raw_body_of body } ∷ []) (flat_map chapter_captions new)
-first_chapter refused name main statements body c old new none is named same chapter =
+pub first_chapter : (refused : Option NamedStatement) (marks : List (List Marked)) (own : List Marked) (name main : List ℕ)
+    (statements body : List RawStmt) (c : Chapter) (old new : List Chapter) → old ≡ [] → new ≡ old ++ c ∷ [] → name ≡ main
+    → statements ≡ body → own ≡ marks_at marks 0
+    → IsChapter (number_in refused name) name (raw_body_of statements) own c
+    → AreCaptions refused marks (record { name = main; body = raw_body_of body } ∷ []) (flat_map chapter_captions new)
+first_chapter refused marks own name main statements body c old new none is named same marked chapter =
     let m : RawRoutine = record { name = main; body = raw_body_of body } in
-    subst (λ l. AreCaptions refused (m ∷ []) (flat_map chapter_captions l)) (sym (is ∙ ap (λ l. l ++ c ∷ []) none))
-    (subst (λ l. AreCaptions refused (m ∷ []) l) (sym (append-nil (chapter_captions c)))
-    (one_chapter refused m c
-    (subst (λ n. IsChapter (number_in refused n) n (raw_body_of body) c) named
-    (subst (λ b. IsChapter (number_in refused name) name (raw_body_of b) c) same chapter))))
+    subst (λ l. AreCaptions refused marks (m ∷ []) (flat_map chapter_captions l)) (sym (is ∙ ap (λ l. l ++ c ∷ []) none))
+    (subst (λ l. AreCaptions refused marks (m ∷ []) l) (sym (append-nil (chapter_captions c)))
+    (one_chapter 0 refused marks m c
+    (subst (λ n. IsChapter (number_in refused n) n (raw_body_of body) (marks_at marks 0) c) named
+    (subst (λ b. IsChapter (number_in refused name) name (raw_body_of b) (marks_at marks 0) c) same
+    (subst (λ l. IsChapter (number_in refused name) name (raw_body_of statements) l c) marked chapter)))))
 
 routines_more : (ms : List RawMethod) (i : ℕ) (m : RawMethod) → i < length ms → m ≡ get_or ms i m
     → map raw_routine_of (take (i + 1) ms) ≡ map raw_routine_of (take i ms) ++ raw_routine_of m ∷ []
@@ -77,28 +89,33 @@ routines_more ms i m some at =
     ∙ ap (λ x. map raw_routine_of (take i ms) ++ raw_routine_of x ∷ []) (sym at)
 
 -- one method more
-pub next_chapter : (refused : Option NamedStatement) (main : RawRoutine) (ms : List RawMethod) (i : ℕ) (m : RawMethod)
-    (statements : List RawStmt) (c : Chapter) (old new : List Chapter) → i < length ms → m ≡ get_or ms i m
-    → new ≡ old ++ c ∷ []
-    → statements ≡ m.body.items → IsChapter (number_in refused m.name) m.name (raw_body_of statements) c
-    → AreCaptions refused (main ∷ map raw_routine_of (take i ms)) (flat_map chapter_captions old)
-    → AreCaptions refused (main ∷ map raw_routine_of (take (i + 1) ms)) (flat_map chapter_captions new)
-next_chapter refused main ms i m statements c old new some at is same chapter before =
-    subst (λ l. AreCaptions refused (main ∷ l) (flat_map chapter_captions new))
+pub next_chapter : (refused : Option NamedStatement) (marks : List (List Marked)) (own : List Marked) (k : ℕ) (main : RawRoutine)
+    (ms : List RawMethod) (i : ℕ) (m : RawMethod) (statements : List RawStmt) (c : Chapter) (old new : List Chapter)
+    → i < length ms → m ≡ get_or ms i m → new ≡ old ++ c ∷ [] → statements ≡ m.body.items → own ≡ marks_at marks k → k ≡ i + 1
+    → IsChapter (number_in refused m.name) m.name (raw_body_of statements) own c
+    → AreCaptions refused marks (main ∷ map raw_routine_of (take i ms)) (flat_map chapter_captions old)
+    → AreCaptions refused marks (main ∷ map raw_routine_of (take (i + 1) ms)) (flat_map chapter_captions new)
+next_chapter refused marks own k main ms i m statements c old new some at is same marked number chapter before =
+    let few : i ≤ length ms = omega (arith, some) in
+    let many = length-map (take i ms) raw_routine_of ∙ length-take-le i ms few in
+    let place : k ≡ 0 + suc (length (map raw_routine_of (take i ms))) = omega (arith, number, many) in
+    subst (λ l. AreCaptions refused marks (main ∷ l) (flat_map chapter_captions new))
     (sym (routines_more ms i m some at))
-    (subst (λ l. AreCaptions refused (main ∷ (map raw_routine_of (take i ms) ++ raw_routine_of m ∷ [])) l)
+    (subst (λ l. AreCaptions refused marks (main ∷ (map raw_routine_of (take i ms) ++ raw_routine_of m ∷ [])) l)
     (flat_map_more chapter_captions [] old c ∙ ap (flat_map chapter_captions) (sym is))
-    (captions_push refused (main ∷ map raw_routine_of (take i ms)) (raw_routine_of m) (flat_map chapter_captions old)
+    (captions_push 0 refused marks (main ∷ map raw_routine_of (take i ms)) (raw_routine_of m) (flat_map chapter_captions old)
     (chapter_captions c) before
-    (one_chapter refused (raw_routine_of m) c
-    (subst (λ b. IsChapter (number_in refused m.name) m.name (raw_body_of b) c) same chapter))))
+    (subst (λ n. AreCaptionsFrom n refused marks (raw_routine_of m ∷ []) (chapter_captions c)) place
+    (one_chapter k refused marks (raw_routine_of m) c
+    (subst (λ b. IsChapter (number_in refused m.name) m.name (raw_body_of b) (marks_at marks k) c) same
+    (subst (λ l. IsChapter (number_in refused m.name) m.name (raw_body_of statements) l c) marked chapter))))))
 
-pub all_chapters : (refused : Option NamedStatement) (main : RawRoutine) (ms : List RawMethod) (i : ℕ) (captions :
-    List (List ℕ))
-    → length ms ≤ i → AreCaptions refused (main ∷ map raw_routine_of (take i ms)) captions
-    → AreCaptions refused (main ∷ map raw_routine_of ms) captions
-all_chapters refused main ms i captions all are =
-    subst (λ l. AreCaptions refused (main ∷ map raw_routine_of l) captions) (take_all i ms all) are
+pub all_chapters : (refused : Option NamedStatement) (marks : List (List Marked)) (main : RawRoutine) (ms : List RawMethod) (i : ℕ)
+    (captions : List (List ℕ))
+    → length ms ≤ i → AreCaptions refused marks (main ∷ map raw_routine_of (take i ms)) captions
+    → AreCaptions refused marks (main ∷ map raw_routine_of ms) captions
+all_chapters refused marks main ms i captions all are =
+    subst (λ l. AreCaptions refused marks (main ∷ map raw_routine_of l) captions) (take_all i ms all) are
 
 -- ---- how many statements they have
 
@@ -160,10 +177,10 @@ next_commented notes walk i comments c old new is many has found same left all =
 
 -- a section: its heading, the captions of its drawing, and HTML
 pub adds_chapter : (chapter : Chapter) (html a b c d : List ℕ) → AddsInTurn (heading chapter.text.name ∷ []) a b
-    → AddsInTurn (statement_captions chapter.text.name chapter.conditions.items (body_statements chapter.text.body)) b c
+    → AddsInTurn (statement_captions chapter.text.name (beside_chapter chapter) (body_statements chapter.text.body)) b c
     → d ≡ c ++ html
     → AddsInTurn (chapter_captions chapter) a d
 adds_chapter chapter html a b c d titled drawn behind =
     adds_behind (chapter_captions chapter) html a c d behind
     (adds_then (heading chapter.text.name ∷ [])
-    (statement_captions chapter.text.name chapter.conditions.items (body_statements chapter.text.body)) a b c titled drawn)
+    (statement_captions chapter.text.name (beside_chapter chapter) (body_statements chapter.text.body)) a b c titled drawn)

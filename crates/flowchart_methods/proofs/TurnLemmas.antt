@@ -5,9 +5,9 @@ use Rattle.std.specs.List.{flat_map}
 use Rattle.std.proofs.lemmas.List.{append-nil, map-append, flat_map_more, take_more, take_all}
 use Rattle.chart_layout.specs.Drawn.{Drawn}
 use Rattle.flowchart_methods.specs.Turns.{AddsInTurn}
-use Rattle.flowchart_methods.specs.declared.conditions.Condition.{Condition}
 use Rattle.flowchart_methods.specs.Conditions.{condition_at}
-use Rattle.flowchart_methods.specs.Captions.{statement_caption, statement_captions}
+use Rattle.flowchart_methods.specs.Marks.{mark_at}
+use Rattle.flowchart_methods.specs.Captions.{Beside, statement_caption, statement_captions}
 use Rattle.flowchart_methods.proofs.Laws.{adds_none, adds_before, adds_behind, adds_then}
 
 -- one text
@@ -74,24 +74,24 @@ flat_map_each f (x ∷ xs) = ap (λ l. f x ∷ l) (flat_map_each f xs)
 
 -- ---- captions of the statements that each of some things has
 
-captions-append : (name : List ℕ) (cs : List (Option Condition)) (xs ys : List Drawn)
+captions-append : (name : List ℕ) (cs : Beside) (xs ys : List Drawn)
     → statement_captions name cs (xs ++ ys) ≡ statement_captions name cs xs ++ statement_captions name cs ys
-captions-append name cs xs ys = map-append (λ (d : Drawn). statement_caption name (condition_at cs d.number) d) xs ys
+captions-append name cs xs ys = map-append (λ (d : Drawn). statement_caption name (condition_at cs.conditions d.number) (mark_at cs.marks d.number) d) xs ys
 
-pub captions_each : {A : Type 0} (name : List ℕ) (cs : List (Option Condition)) (g : A → List Drawn) (xs : List A)
+pub captions_each : {A : Type 0} (name : List ℕ) (cs : Beside) (g : A → List Drawn) (xs : List A)
     → flat_map (λ x. statement_captions name cs (g x)) xs ≡ statement_captions name cs (flat_map g xs)
 captions_each name cs g [] = refl
 captions_each name cs g (x ∷ xs) =
     ap (λ l. statement_captions name cs (g x) ++ l) (captions_each name cs g xs)
     ∙ sym (captions-append name cs (g x) (flat_map g xs))
 
-pub captions_all : {A : Type 0} (name : List ℕ) (cs : List (Option Condition)) (g : A → List Drawn) (xs : List A) (i : ℕ)
+pub captions_all : {A : Type 0} (name : List ℕ) (cs : Beside) (g : A → List Drawn) (xs : List A) (i : ℕ)
     (a b : List ℕ) → length xs ≤ i → AddsInTurn (flat_map (λ x. statement_captions name cs (g x)) (take i xs)) a b
     → AddsInTurn (statement_captions name cs (flat_map g xs)) a b
 captions_all name cs g xs i a b all adds =
     subst (λ l. AddsInTurn l a b) (captions_each name cs g xs) (adds_all (λ x. statement_captions name cs (g x)) xs i a b all adds)
 
 -- the captions of the same statements
-pub adds_same : (name : List ℕ) (cs : List (Option Condition)) (xs ys : List Drawn) (a b : List ℕ) → xs ≡ ys
+pub adds_same : (name : List ℕ) (cs : Beside) (xs ys : List Drawn) (a b : List ℕ) → xs ≡ ys
     → AddsInTurn (statement_captions name cs xs) a b → AddsInTurn (statement_captions name cs ys) a b
 adds_same name cs xs ys a b same adds = subst (λ l. AddsInTurn (statement_captions name cs l) a b) same adds

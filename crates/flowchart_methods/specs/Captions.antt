@@ -1,12 +1,13 @@
 -- What a page has of each method: its name as a heading, and a caption of each of its statements.
-use Rattle.std.specs.Prelude.{◌≡◌, ℕ, Bool, Option, Some, None, List, [], ◌∷◌, ◌++◌, codes, map, if◌then◌else◌}
+use Rattle.std.specs.Prelude.{◌≡◌, ℕ, ◌+◌, Bool, true, false, Option, Some, None, List, [], ◌∷◌, ◌++◌, codes, map, if◌then◌else◌}
 use Rattle.std.specs.Fmt.{decimal}
-use Rattle.pap_reader.specs.Trees.{RawRoutine, ElementTree}
+use Rattle.pap_reader.specs.Trees.{RawBody, RawRoutine, ElementTree}
 use Rattle.chart_layout.specs.Drawn.{Drawn}
 use Rattle.chart_layout.specs.Statements.{statements_of, AreDrawn}
 use Rattle.flowchart_markup.specs.Escapes.{escaped}
 use Rattle.flowchart_methods.specs.declared.conditions.Condition.{Condition}
 use Rattle.flowchart_methods.specs.Conditions.{conditions_of, condition_at}
+use Rattle.flowchart_methods.specs.Marks.{Marked, mark_at, marks_at, mark_words}
 use Rattle.flowchart_methods.specs.Sites.{NamedStatement, number_in}
 
 -- a method's name, as the page has it above its drawing
@@ -20,38 +21,60 @@ condition_text method (Some condition) =
     codes ", where " ++ (method ++ (codes ":" ++ (decimal condition.test
     ++ (if condition.holds then codes " holds" else codes " does not hold"))))
 
--- the class that a statement is shown in: the refused one is marked
-abbrev pub caption_end : Bool → List ℕ
-caption_end is_refused = if is_refused then codes "\" class=\"s bad\">" else codes "\" class=\"s\">"
+-- the class that a statement is shown in: the refused one is marked, and the executed ones of a run, with what the run did there
+abbrev pub caption_end : Option (List ℕ) → Bool → List ℕ
+caption_end (Some done) is_refused = codes "; " ++ (escaped done ++ codes "\" class=\"s ran\">")
+caption_end None true = codes "\" class=\"s bad\">"
+caption_end None false = codes "\" class=\"s\">"
 
--- the place of a statement, to which links lead; what is read aloud of it, that is its place, its condition in these words and its
--- text; and its class
-abbrev pub placed_caption : List ℕ → List ℕ → Drawn → List ℕ
-placed_caption method condition d =
+-- what a run did at a statement, where it executed it
+abbrev pub done_words : Marked → Option (List ℕ)
+done_words m = if m.is_run then Some (mark_words m) else None
+
+-- the place of a statement, to which links lead; what is read aloud of it, that is its place, its condition in these words, its text
+-- and what a run did there, where it came there; and its class
+abbrev pub placed_caption : List ℕ → List ℕ → Option (List ℕ) → Drawn → List ℕ
+placed_caption method condition done d =
     codes "<g id=\"" ++ (method ++ (codes ":" ++ (decimal d.number
     ++ (codes "\" role=\"group\" aria-label=\"" ++ (method ++ (codes ":" ++ (decimal d.number
-    ++ (escaped condition ++ (codes ": " ++ (escaped d.text ++ caption_end d.is_refused))))))))))
+    ++ (escaped condition ++ (codes ": " ++ (escaped d.text ++ caption_end done d.is_refused))))))))))
 
--- the caption of a statement that stands under a condition
-abbrev pub statement_caption : List ℕ → Option Condition → Drawn → List ℕ
-statement_caption method condition d = placed_caption method (condition_text method condition) d
+-- the caption of a statement that stands under a condition, and at which a run did this
+abbrev pub statement_caption : List ℕ → Option Condition → Marked → Drawn → List ℕ
+statement_caption method condition mark d =
+    placed_caption method (condition_text method condition) (done_words mark) d
 
--- the captions of a method's drawn statements, which stand under these conditions by their numbers
-abbrev pub statement_captions : List ℕ → List (Option Condition) → List Drawn → List (List ℕ)
-statement_captions method conditions ds =
-    map (λ d. statement_caption method (condition_at conditions d.number) d) ds
+-- what stands beside the statements of a method, by their numbers: under which conditions they stand, and what a run did at them
+pub record Beside : Type 0 where
+  pub conditions : List (Option Condition)
+  pub marks : List Marked
+
+-- the captions of a method's drawn statements, beside which this stands by their numbers
+abbrev pub statement_captions : List ℕ → Beside → List Drawn → List (List ℕ)
+statement_captions method beside ds =
+    map (λ d. statement_caption method (condition_at beside.conditions d.number) (mark_at beside.marks d.number) d) ds
 
 -- a heading, and behind it the captions of the statements that are drawn
-abbrev pub method_captions : List ℕ → List (Option Condition) → List Drawn → List (List ℕ)
-method_captions name conditions ds = heading name ∷ statement_captions name conditions ds
+abbrev pub method_captions : List ℕ → Beside → List Drawn → List (List ℕ)
+method_captions name beside ds = heading name ∷ statement_captions name beside ds
 
--- the headings and captions of some methods, one method after the other: each has a caption for each statement of its
--- text, which says under which condition it stands, and the refused statement, where there is one, is marked
-abbrev pub AreCaptions : Option NamedStatement → List RawRoutine → List (List ℕ) → Type 0
-AreCaptions refused [] captions = captions ≡ []
-AreCaptions refused (m ∷ ms) captions =
+-- what stands beside the statements of a body: the conditions under which they stand, and what a run did at them
+abbrev pub beside_of : RawBody → List Marked → Beside
+beside_of body marks = record { conditions = conditions_of body; marks = marks }
+
+-- The headings and captions of some methods, the first of which has a number, one method after the other: each has a caption for
+-- each statement of its text, which says under which condition it stands, and what a run did there where it came there; and the
+-- refused statement, where there is one, is marked.
+abbrev pub AreCaptionsFrom : ℕ → Option NamedStatement → List (List Marked) → List RawRoutine → List (List ℕ) → Type 0
+AreCaptionsFrom k refused marks [] captions = captions ≡ []
+AreCaptionsFrom k refused marks (m ∷ ms) captions =
     (ds : List Drawn) × AreDrawn (number_in refused m.name) 0 (statements_of m.body) ds
-    × ((rest : List (List ℕ)) × AreCaptions refused ms rest × (captions ≡ method_captions m.name (conditions_of m.body) ds ++ rest))
+    × ((rest : List (List ℕ)) × AreCaptionsFrom (k + 1) refused marks ms rest
+    × (captions ≡ method_captions m.name (beside_of m.body (marks_at marks k)) ds ++ rest))
+
+-- those of all methods, of which the first has the number 0
+abbrev pub AreCaptions : Option NamedStatement → List (List Marked) → List RawRoutine → List (List ℕ) → Type 0
+AreCaptions refused marks ms captions = AreCaptionsFrom 0 refused marks ms captions
 
 -- the methods in the order of the page: MAIN, and the others in the order of the file
 abbrev pub methods_of : ElementTree → List RawRoutine

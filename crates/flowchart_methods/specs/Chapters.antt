@@ -10,7 +10,8 @@ use Rattle.flowchart_methods.specs.Captions.{method_captions}
 
 -- the heading and the captions of a method of the page
 abbrev pub chapter_captions : Chapter → List (List ℕ)
-chapter_captions c = method_captions c.text.name c.conditions.items (body_statements c.text.body)
+chapter_captions c =
+    method_captions c.text.name (record { conditions = c.conditions.items; marks = c.marks.now }) (body_statements c.text.body)
 
 -- the comments before the start tag of the numbered method, where MAIN is the first
 abbrev pub method_comments : Notes → ℕ → List (String Global)

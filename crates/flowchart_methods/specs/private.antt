@@ -1,2 +1,3 @@
 pub mod Chapters
 pub mod Conditions
+pub mod Subjects

@@ -10,8 +10,9 @@ ghost use Rattle.flowchart_methods.specs.Chapters.{chapter_captions, AreCommente
 ghost use Rattle.flowchart_methods.specs.private.Chapters.{IsChapter};
 
 use crate::conditions::{Condition, read_conditions};
+use crate::mark::{Mark, MethodMarks, marks_of};
 use crate::site::Site;
-use chart_layout::{MethodText, read_method};
+use chart_layout::{MethodText, Passage, read_method};
 use pap_reader::{Elements, RawStmt};
 use pap_tree::Name;
 use plan_notes::{Element, Notes, Walk};
@@ -26,18 +27,24 @@ pub struct Chapter<'a> {
     pub conditions: Vec<Option<Condition>>,
     /// The comments before it in the file.
     pub comments: &'a [String],
+    /// What a run did at its statements, by their numbers.
+    pub marks: &'a [Mark],
+    /// The same, as far as the drawing needs it.
+    pub passages: Vec<Passage>,
 }
 
-/// The methods, MAIN first, with the comments before each. The statement that `site` names is marked as the refused one.
+/// The methods, MAIN first, with the comments before each. The statement that `site` names is marked as the refused one. `marks`
+/// says by their numbers what a run did at the methods' statements, none where there is no run.
 #[tactic(auto, using(crate::proofs::ChapterLemmas::first_chapter))]
 pub fn read_chapters<'a>(
     alloc: Global,
     elements: &Elements,
     notes: &'a Notes,
     site: &Site,
+    marks: &'a [MethodMarks],
 ) -> Result<Vec<Chapter<'a>>, AllocError>
     ensures captions { IfOk result (λ chapters.
-        AreCaptions (named_statement site.now) (methods_of (tree_of elements.now))
+        AreCaptions (named_statement site.now) marks.now (methods_of (tree_of elements.now))
         (flat_map chapter_captions chapters.items)) }
     // The comments before its start tag, and how many statements it has.
     ensures comments { IfOk result (λ chapters. AreCommented notes.now 0 chapters.items) }
@@ -48,12 +55,30 @@ pub fn read_chapters<'a>(
     let main = Name::main();
     let mut to_main = notes.walk();
     let comments = to_main.skip_to(Element::Main);
-    let first = read_chapter(alloc, main, &elements.main, comments, to_main, site)?;
+    let of_main = marks_of(marks, 0);
+    let first = read_chapter(
+        alloc,
+        main,
+        &elements.main,
+        comments,
+        to_main,
+        site,
+        of_main,
+    )?;
     chapters.push(first)?;
     let mut walk = notes.walk();
     for method in &elements.methods {
         let comments = walk.skip_to(Element::Method);
-        let next = read_chapter(alloc, method.name, &method.body, comments, walk, site)?;
+        let of_next = marks_of(marks, chapters.len());
+        let next = read_chapter(
+            alloc,
+            method.name,
+            &method.body,
+            comments,
+            walk,
+            site,
+            of_next,
+        )?;
         chapters.push(next)?;
     }
     Ok(chapters)
@@ -67,19 +92,32 @@ fn read_chapter<'a>(
     comments: &'a [String],
     walk: Walk<'_>,
     site: &Site,
+    marks: &'a [Mark],
 ) -> Result<Chapter<'a>, AllocError>
     ensures chapter { IfOk result (IsChapter (number_in (named_statement site.now) name) name
-        (raw_body_of body.now)) }
+        (raw_body_of body.now) marks.now) }
     ensures comments { IfOk result (λ chapter. chapter.comments.now ≡ comments.now) }
     ensures count { IfOk result (λ chapter. chapter.text.count
         ≡ count_of (statements_of (raw_body_of body.now))) }
 {
     let refused = site.statement_in(&name);
-    let text = read_method(alloc, name, body, walk, refused)?;
+    let passages = passages_of(alloc, marks)?;
+    let text = read_method(alloc, name, body, walk, refused, &passages)?;
     let conditions = read_conditions(alloc, body)?;
     Ok(Chapter {
         text,
         conditions,
         comments,
+        marks,
+        passages,
     })
+}
+
+/// What the drawing of a method needs of the marks of its statements.
+fn passages_of(alloc: Global, marks: &[Mark]) -> Result<Vec<Passage>, AllocError> {
+    let mut passages = Vec::new(alloc);
+    for mark in marks {
+        passages.push(mark.passage())?;
+    }
+    Ok(passages)
 }

@@ -4,6 +4,7 @@ ghost use Rattle.std.specs.List.{flat_map};
 ghost use Rattle.chart_layout.specs.Drawn.{row_statements, drawing_statements};
 ghost use Rattle.flowchart_methods.specs.Turns.{AddsInTurn};
 ghost use Rattle.flowchart_methods.specs.Captions.{statement_captions};
+ghost use Rattle.flowchart_methods.specs.private.Subjects.{beside_subject};
 
 use crate::measures::px;
 use crate::statement::{Subject, write_box, write_call, write_test};
@@ -20,7 +21,7 @@ pub(crate) fn write_drawing(
     drawing: &Drawing<'_>,
 ) -> Result<(), AllocError>
     ensures { OnOk result (AddsInTurn
-        (statement_captions subject.entry.name.now subject.entry.conditions.now
+        (statement_captions subject.entry.name.now (beside_subject subject.entry)
         (drawing_statements drawing.now.parts.items)) page.old page.new) }
 {
     for (i, part) in drawing.parts.iter().enumerate() {
@@ -38,7 +39,7 @@ fn write_part(
     part: &Part<'_>,
 ) -> Result<(), AllocError>
     ensures { OnOk result (AddsInTurn
-        (statement_captions subject.entry.name.now subject.entry.conditions.now
+        (statement_captions subject.entry.name.now (beside_subject subject.entry)
         (flat_map row_statements part.now.rows.items)) page.old page.new) }
 {
     page.append(&part_start(page.alloc(), subject.name, drawing, number, part)?)?;
@@ -102,17 +103,32 @@ fn put_part_tag(
     )
 }
 
-/// Appends the lines of a part, and its arrowheads.
+/// Appends the lines of a part, and its arrowheads: those along which a run went behind the others.
 fn write_part_lines(page: &mut Page, part: &Part<'_>) -> Result<(), AllocError> {
     let alloc = page.alloc();
-    let mut lines = String::new(alloc);
-    push_strokes(alloc, &mut lines, &part.verticals, "V")?;
-    push_strokes(alloc, &mut lines, &part.horizontals, "H")?;
-    let heads = heads_text(alloc, &part.heads)?;
+    let lines = lines_text(alloc, part, false)?;
+    let heads = heads_text(alloc, &part.heads, false)?;
     page.put(
         "<path aria-hidden=\"true\" class=\"l\" d=\"%\"/><path aria-hidden=\"true\" class=\"a\" d=\"%\"/>",
         &[Fill::Text(lines.as_bytes()), Fill::Text(heads.as_bytes())],
+    )?;
+    let lines = lines_text(alloc, part, true)?;
+    let heads = heads_text(alloc, &part.heads, true)?;
+    if lines.is_empty() {
+        return Ok(());
+    }
+    page.put(
+        "<path aria-hidden=\"true\" class=\"l ran\" d=\"%\"/><path aria-hidden=\"true\" class=\"a ran\" d=\"%\"/>",
+        &[Fill::Text(lines.as_bytes()), Fill::Text(heads.as_bytes())],
     )
+}
+
+/// The text of a path of the lines of a part: those along which a run went, or the others.
+fn lines_text(alloc: Global, part: &Part<'_>, is_taken: bool) -> Result<String, AllocError> {
+    let mut lines = String::new(alloc);
+    push_strokes(alloc, &mut lines, &part.verticals, "V", is_taken)?;
+    push_strokes(alloc, &mut lines, &part.horizontals, "H", is_taken)?;
+    Ok(lines)
 }
 
 /// Where the part of a number ends: where the next begins, or at the drawing's height.
@@ -137,27 +153,32 @@ fn part_title(
     format!(in alloc; "Flowchart of {name}, part {number} of {count}")
 }
 
-/// Appends lines to the text of a path; `to` is the letter of the way on which they go.
+/// Appends lines to the text of a path, those along which a run went or the others; `to` is the letter of the way on which they go.
 fn push_strokes(
     alloc: Global,
     path: &mut String,
     strokes: &[Stroke],
     to: &str,
+    is_taken: bool,
 ) -> Result<(), AllocError> {
     for stroke in strokes {
-        let Stroke { x, y, end } = *stroke;
-        path.push_str(&format!(in alloc; "M{x} {y}{to}{end}")?)?;
+        if stroke.is_taken == is_taken {
+            let Stroke { x, y, end, .. } = *stroke;
+            path.push_str(&format!(in alloc; "M{x} {y}{to}{end}")?)?;
+        }
     }
     Ok(())
 }
 
-/// The text of a path of arrowheads.
-fn heads_text(alloc: Global, heads: &[Head]) -> Result<String, AllocError> {
+/// The text of a path of arrowheads: those to which a run came, or the others.
+fn heads_text(alloc: Global, heads: &[Head], is_taken: bool) -> Result<String, AllocError> {
     let mut path = String::new(alloc);
     for head in heads {
-        let Head { x, y, is_left } = *head;
-        let shape = if is_left { "l7-4v8z" } else { "l-4-7h8z" };
-        path.push_str(&format!(in alloc; "M{x} {y}{shape}")?)?;
+        if head.is_taken == is_taken {
+            let Head { x, y, is_left, .. } = *head;
+            let shape = if is_left { "l7-4v8z" } else { "l-4-7h8z" };
+            path.push_str(&format!(in alloc; "M{x} {y}{shape}")?)?;
+        }
     }
     Ok(path)
 }
@@ -165,7 +186,7 @@ fn heads_text(alloc: Global, heads: &[Head]) -> Result<String, AllocError> {
 /// Appends the symbols and words of a part.
 fn write_rows(page: &mut Page, subject: Subject<'_>, rows: &[Row<'_>]) -> Result<(), AllocError>
     ensures { OnOk result (AddsInTurn
-        (statement_captions subject.entry.name.now subject.entry.conditions.now
+        (statement_captions subject.entry.name.now (beside_subject subject.entry)
         (flat_map row_statements rows.now)) page.old page.new) }
 {
     for row in rows {
@@ -177,7 +198,7 @@ fn write_rows(page: &mut Page, subject: Subject<'_>, rows: &[Row<'_>]) -> Result
 /// Appends a symbol or a word.
 fn write_row(page: &mut Page, subject: Subject<'_>, row: &Row<'_>) -> Result<(), AllocError>
     ensures { OnOk result (AddsInTurn
-        (statement_captions subject.entry.name.now subject.entry.conditions.now
+        (statement_captions subject.entry.name.now (beside_subject subject.entry)
         (row_statements row.now)) page.old page.new) }
 {
     match row {
@@ -196,9 +217,9 @@ fn write_row(page: &mut Page, subject: Subject<'_>, row: &Row<'_>) -> Result<(),
         Row::Word {
             x,
             y,
+            test,
             word,
             anchor,
-            ..
-        } => write_word(page, *x, *y, *word, *anchor),
+        } => write_word(page, subject, *x, *y, *test, *word, *anchor),
     }
 }

@@ -5,6 +5,7 @@ ghost use Rattle.flowchart_methods.specs.Turns.{AddsInTurn};
 ghost use Rattle.chart_layout.specs.Drawn.{body_statements};
 ghost use Rattle.flowchart_methods.specs.Captions.{heading, statement_captions};
 ghost use Rattle.flowchart_methods.specs.Chapters.{chapter_captions};
+ghost use Rattle.flowchart_methods.specs.private.Subjects.{beside_subject};
 
 use crate::callers::Callers;
 use crate::chapter::Chapter;
@@ -12,7 +13,7 @@ use crate::comments::write_paragraph;
 use crate::figure::write_drawing;
 use crate::site::Site;
 use crate::statement::Subject;
-use chart_layout::{MethodText, draw};
+use chart_layout::draw;
 use flowchart_markup::{Fill, Page};
 use pap_reader::Elements;
 use pap_tree::Name;
@@ -64,10 +65,11 @@ fn write_method(
     let subject = Subject {
         name,
         conditions: &chapter.conditions,
+        marks: chapter.marks,
         is_refused,
         methods,
     };
-    write_figure(page, subject, &chapter.text)?;
+    write_figure(page, subject, chapter)?;
     page.put("</div></section>\n", &[])?;
     Ok(())
 }
@@ -95,13 +97,13 @@ fn write_method_head(
 fn write_figure(
     page: &mut Page,
     subject: Subject<'_>,
-    method: &MethodText,
+    chapter: &Chapter<'_>,
 ) -> Result<(), AllocError>
     ensures { OnOk result (AddsInTurn
-        (statement_captions subject.entry.name.now subject.entry.conditions.now
-        (body_statements method.now.body)) page.old page.new) }
+        (statement_captions subject.entry.name.now (beside_subject subject.entry)
+        (body_statements chapter.now.text.body)) page.old page.new) }
 {
-    let drawing = draw(page.alloc(), method)?;
+    let drawing = draw(page.alloc(), &chapter.text, &chapter.passages)?;
     write_drawing(page, subject, &drawing)?;
     Ok(())
 }

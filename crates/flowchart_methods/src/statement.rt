@@ -1,17 +1,20 @@
 //! The statements of a drawing.
-ghost use Rattle.std.specs.Prelude.{◌≡◌, ◌++◌, ◌∷◌, [], IfOk, OnOk, map, string_bytes};
+ghost use Rattle.std.specs.Prelude.{◌≡◌, ◌++◌, ◌∷◌, [], Some, None, false, IfOk, OnOk, map, option_map, string_bytes};
 ghost use Rattle.chart_layout.specs.Drawn.{drawn, drawn_statement, drawn_call};
 ghost use Rattle.flowchart_methods.specs.Turns.{AddsInTurn};
 ghost use Rattle.flowchart_methods.specs.Conditions.{condition_at};
-ghost use Rattle.flowchart_methods.specs.Captions.{condition_text, placed_caption, statement_caption, statement_captions};
+ghost use Rattle.flowchart_methods.specs.Marks.{mark_at};
+ghost use Rattle.flowchart_methods.specs.Captions.{condition_text, done_words, placed_caption, statement_caption, statement_captions};
+ghost use Rattle.flowchart_methods.specs.private.Subjects.{beside_subject};
 
 use crate::conditions::Condition;
+use crate::mark::Mark;
 use crate::measures::{
     CALL_BASE, CALL_LINE, CALL_PLACE_BASE, MARK_SIDE, PLACE_BASE, TEXT_BASE, px,
 };
 use chart_layout::{
-    BOX_SIDE, CALL_HEIGHT, CALL_SIDE, Call, LINE_HEIGHT, Line, Piece, Px, STATEMENT_GAP, Statement,
-    TEST_SIDE, TEXT_DROP, Written,
+    BENEATH_INDENT, BOX_SIDE, CALL_HEIGHT, CALL_SIDE, Call, LINE_HEIGHT, Line, Piece, Px,
+    STATEMENT_GAP, Statement, TEST_SIDE, TEXT_DROP, Word, Written,
 };
 use flowchart_markup::{Fill, Page};
 use pap_tree::Name;
@@ -23,10 +26,33 @@ pub(crate) struct Subject<'a> {
     pub name: &'a Name,
     /// Where each statement stands, by its number.
     pub conditions: &'a [Option<Condition>],
+    /// What a run did at it, by its number.
+    pub marks: &'a [Mark],
     /// The plan is refused for the method.
     pub is_refused: bool,
     /// The names of the methods that there are, in order.
     pub methods: &'a [Name],
+}
+
+impl<'a> Subject<'a> {
+    /// What a run did at the statement of a number.
+    pub(crate) fn mark(self, number: u32) -> Option<&'a Mark> {
+        self.marks.get(number as usize)
+    }
+
+    /// Whether a run executed the statement of a number.
+    fn is_run(self, number: u32) -> bool {
+        self.mark(number).is_some_and(|mark| mark.first().is_some())
+    }
+
+    /// Whether a run took a way of the test of a number.
+    pub(crate) fn takes(self, test: u32, word: Word) -> bool {
+        match word {
+            Word::Yes => self.mark(test).is_some_and(|mark| mark.takes(true)),
+            Word::No => self.mark(test).is_some_and(|mark| mark.takes(false)),
+            Word::YesOrNo => self.is_run(test),
+        }
+    }
 }
 
 /// Where the text of a statement stands.
@@ -50,13 +76,10 @@ pub(crate) fn write_box(
     row: &[Statement],
 ) -> Result<(), AllocError>
     ensures { OnOk result (AddsInTurn
-        (statement_captions subject.entry.name.now subject.entry.conditions.now
+        (statement_captions subject.entry.name.now (beside_subject subject.entry)
         (map drawn_statement row.now)) page.old page.new) }
 {
-    page.put(
-        "<rect class=\"b\" x=\"%\" y=\"%\" width=\"%\" height=\"%\"/>",
-        &[px(x), px(y), px(width), px(height)],
-    )?;
+    page.append(&box_symbol(page.alloc(), subject, x, y, width, height, row)?)?;
     let frame = TextFrame {
         x: x + BOX_SIDE,
         top: y + TEXT_DROP,
@@ -64,6 +87,35 @@ pub(crate) fn write_box(
     };
     write_statements(page, subject, row, frame)?;
     Ok(())
+}
+
+/// The line round a box. It is marked where a run executed its first statement, and so all of them.
+fn box_symbol(
+    alloc: Global,
+    subject: Subject<'_>,
+    x: Px,
+    y: Px,
+    width: Px,
+    height: Px,
+    row: &[Statement],
+) -> Result<Page, AllocError> {
+    let mut page = Page::new(alloc);
+    let fills = [px(x), px(y), px(width), px(height)];
+    let is_run = row
+        .first()
+        .is_some_and(|statement| subject.is_run(statement.number));
+    if is_run {
+        page.put(
+            "<rect class=\"b ran\" x=\"%\" y=\"%\" width=\"%\" height=\"%\"/>",
+            &fills,
+        )?;
+    } else {
+        page.put(
+            "<rect class=\"b\" x=\"%\" y=\"%\" width=\"%\" height=\"%\"/>",
+            &fills,
+        )?;
+    }
+    Ok(page)
 }
 
 /// Appends statements one below the other.
@@ -74,7 +126,7 @@ fn write_statements(
     frame: TextFrame,
 ) -> Result<(), AllocError>
     ensures { OnOk result (AddsInTurn
-        (statement_captions subject.entry.name.now subject.entry.conditions.now
+        (statement_captions subject.entry.name.now (beside_subject subject.entry)
         (map drawn_statement row.now)) page.old page.new) }
 {
     let mut frame = frame;
@@ -95,10 +147,11 @@ pub(crate) fn write_test(
     test: &Statement,
 ) -> Result<(), AllocError>
     ensures { OnOk result (AddsInTurn
-        (statement_captions subject.entry.name.now subject.entry.conditions.now
+        (statement_captions subject.entry.name.now (beside_subject subject.entry)
         (drawn_statement test.now ∷ [])) page.old page.new) }
 {
-    page.append(&hexagon(page.alloc(), x, y, test)?)?;
+    let is_run = subject.is_run(test.number);
+    page.append(&hexagon(page.alloc(), x, y, test, is_run)?)?;
     let width = test.test_width();
     let frame = TextFrame {
         x: x + TEST_SIDE,
@@ -110,7 +163,13 @@ pub(crate) fn write_test(
 }
 
 /// The line round a test.
-fn hexagon(alloc: Global, x: Px, y: Px, test: &Statement) -> Result<Page, AllocError> {
+fn hexagon(
+    alloc: Global,
+    x: Px,
+    y: Px,
+    test: &Statement,
+    is_run: bool,
+) -> Result<Page, AllocError> {
     let mut page = Page::new(alloc);
     let half = test.test_height().half();
     let point = TEST_SIDE.half();
@@ -132,6 +191,11 @@ fn hexagon(alloc: Global, x: Px, y: Px, test: &Statement) -> Result<Page, AllocE
             "<path class=\"d bad\" d=\"M% %l% -%h%l% %l-% %h-%z\"/>",
             &numbers,
         )?;
+    } else if is_run {
+        page.put(
+            "<path class=\"d ran\" d=\"M% %l% -%h%l% %l-% %h-%z\"/>",
+            &numbers,
+        )?;
     } else {
         page.put(
             "<path class=\"d\" d=\"M% %l% -%h%l% %l-% %h-%z\"/>",
@@ -150,7 +214,7 @@ fn write_statement(
     frame: TextFrame,
 ) -> Result<(), AllocError>
     ensures { OnOk result (AddsInTurn
-        (statement_captions subject.entry.name.now subject.entry.conditions.now
+        (statement_captions subject.entry.name.now (beside_subject subject.entry)
         (drawn_statement statement.now ∷ [])) page.old page.new) }
 {
     write_caption(
@@ -160,7 +224,7 @@ fn write_statement(
         statement.is_refused,
         &statement.written.text,
     )?;
-    page.append(&statement_lines(page.alloc(), subject.name, statement, frame)?)?;
+    page.append(&statement_lines(page.alloc(), subject, statement, frame)?)?;
     Ok(())
 }
 
@@ -174,7 +238,7 @@ pub(crate) fn write_call(
     call: &Call,
 ) -> Result<(), AllocError>
     ensures { OnOk result (AddsInTurn
-        (statement_captions subject.entry.name.now subject.entry.conditions.now
+        (statement_captions subject.entry.name.now (beside_subject subject.entry)
         (drawn_call call.now ∷ [])) page.old page.new) }
 {
     write_caption(
@@ -198,11 +262,53 @@ fn write_caption(
     text: &[u8],
 ) -> Result<(), AllocError>
     ensures { OnOk result (page.new ≡ page.old ++ statement_caption subject.entry.name.now
-        (condition_at subject.entry.conditions.now number) (drawn number is_refused text.now)) }
+        (condition_at subject.entry.conditions.now number)
+        (mark_at subject.entry.marks.now number) (drawn number is_refused text.now)) }
 {
     let condition = condition_at(subject.conditions, number);
     let condition = condition_text(page.alloc(), subject.name, condition)?;
-    put_caption(page, subject.name, number, is_refused, &condition, text)
+    match done_at(page.alloc(), subject.marks, number)? {
+        Some(done) => put_done(page, subject.name, number, &condition, text, &done),
+        None => put_caption(page, subject.name, number, is_refused, &condition, text),
+    }
+}
+
+/// What a run did at the statement of a number, as it is read aloud. `None` where it didn't execute it.
+fn done_at(alloc: Global, marks: &[Mark], number: u32) -> Result<Option<Vec<u8>>, AllocError>
+    ensures { IfOk result (λ words. option_map (λ w. w.items) words
+        ≡ done_words (mark_at marks.now number)) }
+{
+    match marks.get(number as usize) {
+        Some(mark) => mark.done_words(alloc),
+        None => Ok(None),
+    }
+}
+
+/// Appends the start of the group of a statement that a run executed, with what the run did there.
+fn put_done<'a>(
+    page: &mut Page,
+    name: &Name,
+    number: u32,
+    condition: &'a str,
+    text: &'a [u8],
+    done: &'a [u8],
+) -> Result<(), AllocError>
+    ensures { OnOk result (page.new ≡ page.old
+        ++ placed_caption name.now condition.now (Some done.now) (drawn number false text.now)) }
+{
+    let number = u64::from(number);
+    page.put(
+        "<g id=\"%:%\" role=\"group\" aria-label=\"%:%%: %; %\" class=\"s ran\">",
+        &[
+            Fill::OfName(*name),
+            Fill::Number(number),
+            Fill::OfName(*name),
+            Fill::Number(number),
+            Fill::Text(condition.as_bytes()),
+            Fill::Text(text),
+            Fill::Text(done),
+        ],
+    )
 }
 
 /// Appends the start of a statement's group, by its condition as it is read aloud.
@@ -215,7 +321,7 @@ fn put_caption<'a>(
     text: &'a [u8],
 ) -> Result<(), AllocError>
     ensures { OnOk result (page.new ≡ page.old
-        ++ placed_caption name.now condition.now (drawn number is_refused text.now)) }
+        ++ placed_caption name.now condition.now None (drawn number is_refused text.now)) }
 {
     let place = u64::from(number);
     if is_refused {
@@ -275,7 +381,7 @@ fn condition_text(
 /// What stands in a statement's group.
 fn statement_lines(
     alloc: Global,
-    name: &Name,
+    subject: Subject<'_>,
     statement: &Statement,
     frame: TextFrame,
 ) -> Result<Page, AllocError> {
@@ -289,10 +395,12 @@ fn statement_lines(
         frame.x,
         frame.top + TEXT_BASE,
     )?;
+    let beneath = frame.top + statement.text_height();
+    write_done_lines(&mut page, subject.mark(statement.number), frame.x, beneath)?;
     let base = frame.top + PLACE_BASE;
     write_place(
         &mut page,
-        name,
+        subject,
         statement.number,
         statement.is_refused,
         frame.end,
@@ -300,6 +408,27 @@ fn statement_lines(
     )?;
     page.put("</g>", &[])?;
     Ok(page)
+}
+
+/// Appends what came of a statement, below its text.
+fn write_done_lines(
+    page: &mut Page,
+    mark: Option<&Mark>,
+    x: Px,
+    top: Px,
+) -> Result<(), AllocError> {
+    let Some(mark) = mark else {
+        return Ok(());
+    };
+    let mut base = top + TEXT_BASE;
+    for line in mark.lines() {
+        page.put(
+            "<text class=\"v\" x=\"%\" y=\"%\">%</text>",
+            &[px(x + BENEATH_INDENT), px(base), Fill::Text(line)],
+        )?;
+        base = base + LINE_HEIGHT;
+    }
+    Ok(())
 }
 
 /// Appends the mark of a refused statement, of a height.
@@ -370,19 +499,31 @@ fn write_gap(
     Ok(())
 }
 
-/// Appends a statement's place, which ends at `x`.
+/// Appends a statement's place, which ends at `x`: as a link to the first of its entries in the list of a run, where that executed it.
 fn write_place(
     page: &mut Page,
-    name: &Name,
+    subject: Subject<'_>,
     number: u32,
     is_refused: bool,
     x: Px,
     y: Px,
 ) -> Result<(), AllocError> {
+    if let Some(first) = subject.mark(number).and_then(|mark| mark.first()) {
+        return page.put(
+            "<a href=\"#visit-%\"><text class=\"p\" x=\"%\" y=\"%\">%:%</text></a>",
+            &[
+                Fill::Number(first),
+                px(x),
+                px(y),
+                Fill::OfName(*subject.name),
+                Fill::Number(u64::from(number)),
+            ],
+        );
+    }
     let fills = [
         px(x),
         px(y),
-        Fill::OfName(*name),
+        Fill::OfName(*subject.name),
         Fill::Number(u64::from(number)),
     ];
     if is_refused {
@@ -408,7 +549,7 @@ fn call_symbol(
     let end = x + call.width() - CALL_SIDE;
     write_place(
         &mut page,
-        subject.name,
+        subject,
         call.number,
         call.is_refused,
         end,

@@ -95,14 +95,17 @@ fn terminator(
 #[tactic(auto, using(crate::proofs::TurnLemmas::adds_html))]
 pub(crate) fn write_word(
     page: &mut Page,
+    subject: Subject<'_>,
     x: Px,
     y: Px,
+    test: u32,
     word: Word,
     anchor: Anchor,
 ) -> Result<(), AllocError>
     ensures { OnOk result (AddsInTurn [] page.old page.new) }
 {
-    page.append(&word_symbol(page.alloc(), x, y, word, anchor)?)?;
+    let is_taken = subject.takes(test, word);
+    page.append(&word_symbol(page.alloc(), x, y, word, anchor, is_taken)?)?;
     Ok(())
 }
 
@@ -113,6 +116,7 @@ fn word_symbol(
     y: Px,
     word: Word,
     anchor: Anchor,
+    is_taken: bool,
 ) -> Result<Page, AllocError> {
     let mut page = Page::new(alloc);
     let word = match word {
@@ -121,9 +125,17 @@ fn word_symbol(
         Word::YesOrNo => "yes or no",
     };
     let fills = [px(x), px(y), Fill::Text(word.as_bytes())];
-    match anchor {
-        Anchor::Begins => page.put("<text class=\"y\" x=\"%\" y=\"%\">%</text>", &fills)?,
-        Anchor::Ends => page.put("<text class=\"e\" x=\"%\" y=\"%\">%</text>", &fills)?,
+    match (anchor, is_taken) {
+        (Anchor::Begins, false) => {
+            page.put("<text class=\"y\" x=\"%\" y=\"%\">%</text>", &fills)?
+        }
+        (Anchor::Begins, true) => {
+            page.put("<text class=\"y ran\" x=\"%\" y=\"%\">%</text>", &fills)?
+        }
+        (Anchor::Ends, false) => { page.put("<text class=\"e\" x=\"%\" y=\"%\">%</text>", &fills)? }
+        (Anchor::Ends, true) => {
+            page.put("<text class=\"e ran\" x=\"%\" y=\"%\">%</text>", &fills)?
+        }
     }
     Ok(page)
 }

@@ -1,7 +1,8 @@
 -- A page from its parts.
-use Rattle.std.proofs.Common.{◌≡◌, ◌≢◌, inl, inr, ℕ, ◌<◌, Option, Some, None, List, [], ◌++◌, length, refl, sym, ap, subst, ◌∙◌, append_assoc, Global}
+use Rattle.std.proofs.Common.{◌≡◌, ◌≢◌, inl, inr, ℕ, ◌<◌, Option, Some, None, List, [], ◌∷◌, ◌++◌, length, refl, sym, ap, subst, ◌∙◌, append_assoc, Global}
 use Rattle.std.specs.Prelude.{String, Err}
 use Rattle.std.specs.declared.alloc.AllocError.{AllocError}
+use Rattle.std.proofs.lemmas.List.{append-nil}
 use Rattle.limits_file.specs.declared.limits.Limits.{Limits}
 use Rattle.limits_file.specs.declared.fault.LimitsFault.{LimitsFault}
 use Rattle.limits_file.specs.declared.fault.LimitsFault.TheVariants as ranges
@@ -20,16 +21,18 @@ use Rattle.flowchart_methods.specs.declared.site.Site.TheVariants.{Nowhere}
 use Rattle.flowchart_methods.specs.Turns.{StandInTurn, AddsInTurn}
 use Rattle.flowchart_methods.specs.Sites.{NamedStatement, named_statement}
 use Rattle.flowchart_methods.specs.Captions.{AreCaptions, methods_of}
-use Rattle.flowchart_methods.proofs.Laws.{turn-before, turn-behind, adds_behind, adds_then}
+use Rattle.flowchart_methods.proofs.Laws.{turn-before, turn-behind, adds_none, adds_before, adds_behind, adds_then}
 use Rattle.flowchart_page.specs.Findings.{Finding, IsFound, marked}
 use Rattle.flowchart_page.specs.Heads.{page_head}
+use Rattle.flowchart_page.specs.Runs.{RunParts, run_texts, run_marks}
 use Rattle.flowchart_page.specs.Declarations.{TableSource}
-use Rattle.flowchart_page.specs.Pages.{page_end, IsWholePage, Says, AreLimits, IsPage}
+use Rattle.flowchart_page.specs.Judged.{finding_of, words_of, HasLine}
+use Rattle.flowchart_page.specs.Pages.{page_end, IsWholePage, Says, AreLimits, IsRunPage}
 use Rattle.flowchart_page.specs.declared.verdict.Verdict.{Verdict}
 use Rattle.flowchart_page.specs.declared.verdict.Verdict.TheVariants as verdicts
 use Rattle.flowchart_page.specs.private.PageViews.{IsAround, ShowsTree, ShowsRead, HasTable, IsBehind, ShowsVerdict}
 use Rattle.flowchart_page.specs.private.TableViews.{AddsTable}
-use Rattle.flowchart_page.specs.private.VerdictViews.{finding_of, words_of, verdict_text, HasLine}
+use Rattle.flowchart_page.specs.private.VerdictViews.{verdict_text}
 
 four_parts : (a b c d p q r s t : List ℕ) → p ≡ [] → q ≡ p ++ a → r ≡ q ++ b → s ≡ r ++ c → t ≡ s ++ d
     → t ≡ a ++ (b ++ (c ++ d))
@@ -80,28 +83,28 @@ fault_of bytes (faults.Many which) n h = h
 fault_of bytes faults.Memory n h = absurd (n refl)
 
 -- the page of a file that isn't read as a plan
-pub unread_page : (finding : Finding) (verdict : Site → List ℕ) (plan : List ℕ) (file : Option (List ℕ)) (f : ReadFault)
-    (page : List ℕ) → f ≢ faults.Memory → IsFaultOrMemory plan f → IsWholePage (verdict Nowhere) [] page
-    → ShowsVerdict plan file finding verdict page
-unread_page finding verdict plan file f page n h whole = record {
+pub unread_page : (run : Option RunParts) (finding : Finding) (verdict : Site → List ℕ) (plan : List ℕ) (file : Option (List ℕ)) (f : ReadFault)
+    (page : List ℕ) → f ≢ faults.Memory → IsFaultOrMemory plan f → IsWholePage (verdict Nowhere) (run_texts run ++ []) page
+    → ShowsVerdict run plan file finding verdict page
+unread_page run finding verdict plan file f page n h whole = record {
   site = Nowhere;
   shown = record { texts = []; are_texts = inr (f, fault_of plan f n h, refl, refl); whole = whole };
 }
 
 -- the page of a plan that is read
-pub read_page : (finding : Finding) (verdict : Site → List ℕ) (plan : List ℕ) (file : Option (List ℕ)) (tree : ElementTree)
-    (page : List ℕ) → IsElements plan tree → ShowsTree plan file finding verdict tree page
-    → ShowsVerdict plan file finding verdict page
-read_page finding verdict plan file tree page read shown = record {
+pub read_page : (run : Option RunParts) (finding : Finding) (verdict : Site → List ℕ) (plan : List ℕ) (file : Option (List ℕ)) (tree : ElementTree)
+    (page : List ℕ) → IsElements plan tree → ShowsTree run plan file finding verdict tree page
+    → ShowsVerdict run plan file finding verdict page
+read_page run finding verdict plan file tree page read shown = record {
   site = shown.site;
   shown = record { texts = shown.texts; are_texts = inl (tree, read, shown.are_texts); whole = shown.whole };
 }
 
 -- the same with the comments of its file, and with its range file
-pub tree_page : (finding : Finding) (verdict : Site → List ℕ) (plan : List ℕ) (file : Option (List ℕ)) (notes : Notes)
+pub tree_page : (run : Option RunParts) (finding : Finding) (verdict : Site → List ℕ) (plan : List ℕ) (file : Option (List ℕ)) (notes : Notes)
     (limits : Option Limits) (tree : ElementTree) (page : List ℕ) → HasNotes plan notes → AreLimits file limits
-    → ShowsRead notes limits finding verdict tree page → ShowsTree plan file finding verdict tree page
-tree_page finding verdict plan file notes limits tree page noted read shown = record {
+    → ShowsRead run notes limits finding verdict tree page → ShowsTree run plan file finding verdict tree page
+tree_page run finding verdict plan file notes limits tree page noted read shown = record {
   site = shown.site;
   texts = shown.table ++ shown.captions;
   are_texts = record {
@@ -116,39 +119,61 @@ tree_page finding verdict plan file notes limits tree page noted read shown = re
 }
 
 -- the same with what a refusal names
-pub site_page : (finding : Finding) (verdict : Site → List ℕ) (notes : Notes) (limits : Option Limits) (site : Site)
+pub site_page : (run : Option RunParts) (finding : Finding) (verdict : Site → List ℕ) (notes : Notes) (limits : Option Limits) (site : Site)
     (captions : List (List ℕ)) (tree : ElementTree) (page : List ℕ) → named_statement site ≡ marked finding
-    → AreCaptions (named_statement site) (methods_of tree) captions
-    → HasTable (record { notes = notes; limits = limits; finding = finding; site = site }) tree captions (verdict site) page
-    → ShowsRead notes limits finding verdict tree page
-site_page finding verdict notes limits site captions tree page names are has = record {
+    → AreCaptions (named_statement site) (run_marks run) (methods_of tree) captions
+    → HasTable run (record { notes = notes; limits = limits; finding = finding; site = site }) tree captions (verdict site) page
+    → ShowsRead run notes limits finding verdict tree page
+site_page run finding verdict notes limits site captions tree page names are has = record {
   site = site;
   names = names;
   table = has.table;
   is_table = has.is_table;
   captions = captions;
-  are_captions = subst (λ s. AreCaptions s (methods_of tree) captions) names are;
+  are_captions = subst (λ s. AreCaptions s (run_marks run) (methods_of tree) captions) names are;
   whole = has.whole;
 }
 
 -- the same from what stands behind the verdict
-pub table_page : (source : TableSource) (tree : ElementTree) (captions : List (List ℕ)) (verdict rest page : List ℕ)
-    → IsBehind source tree captions rest → IsAround verdict rest page → HasTable source tree captions verdict page
-table_page source tree captions verdict rest page behind around = record {
+pub table_page : (run : Option RunParts) (source : TableSource) (tree : ElementTree) (captions : List (List ℕ)) (verdict rest page : List ℕ)
+    → IsBehind run source tree captions rest → IsAround verdict rest page → HasTable run source tree captions verdict page
+table_page run source tree captions verdict rest page behind around = record {
   table = behind.table;
   is_table = behind.is_table;
-  whole = whole_page verdict (behind.table ++ captions) rest page behind.stand around;
+  whole = whole_page verdict (run_texts run ++ (behind.table ++ captions)) rest page behind.stand around;
+}
+
+-- what a page has of a run, as it is appended
+pub no_run : (page : List ℕ) → AddsInTurn (run_texts None) page page
+no_run page = adds_none page
+
+pub a_run : (run : RunParts) (old new : List ℕ) → new ≡ old ++ run.part → AddsInTurn (run_texts (Some run)) old new
+a_run run old new is = record {
+  more = run.part;
+  grown = is;
+  stand = ([], [], sym (append-nil run.part), tt);
 }
 
 -- what stands behind the verdict, part by part
-pub behind_of : (source : TableSource) (tree : ElementTree) (captions : List (List ℕ)) (between more a b c d e : List ℕ)
-    → AddsTable source tree a b → c ≡ b ++ between → AddsInTurn captions c d → e ≡ d ++ more → IsBehind source tree captions e
-behind_of source tree captions between more a b c d e table is_c drawn is_e = record {
-  table = table.texts;
-  is_table = table.are;
-  stand = stand_behind (table.texts ++ captions) a d e more
-      (adds_then table.texts captions a c d (adds_behind table.texts between a b c is_c table.adds) drawn) is_e;
-}
+pub behind_of : (run : Option RunParts) (source : TableSource) (tree : ElementTree) (captions : List (List ℕ))
+    (index between more r s a b c d e : List ℕ) → AddsInTurn (run_texts run) r s → a ≡ s ++ index
+    → AddsTable source tree a b → c ≡ b ++ between → AddsInTurn captions c d → e ≡ d ++ more
+    → IsBehind run source tree captions e
+behind_of run source tree captions index between more r s a b c d e told is_a table is_c drawn is_e =
+    let shown = table.texts ++ captions in
+    let drawings = adds_then table.texts captions a c d (adds_behind table.texts between a b c is_c table.adds) drawn in
+    record {
+      table = table.texts;
+      is_table = table.are;
+      stand = stand_behind (run_texts run ++ shown) r d e more
+          (adds_then (run_texts run) shown r s d told (adds_before shown index s a d is_a drawings)) is_e;
+    }
+
+-- of a file that isn't read, this of a run alone
+pub run_alone : (run : Option RunParts) (more r s e : List ℕ) → AddsInTurn (run_texts run) r s → e ≡ s ++ more
+    → StandInTurn (run_texts run ++ []) e
+run_alone None more r s e told is = tt
+run_alone (Some x) more r s e told is = stand_behind (x.part ∷ []) r s e more told is
 
 -- ---- the range file
 
@@ -170,10 +195,10 @@ says_all plan verdicts.InOrder site line = refl
 says_all plan (verdicts.Refused reason) site line = record { line = reason.line.items; is_line = line; is = refl }
 
 -- the page of a plan that is judged
-pub judged_page : (v : Verdict) (plan page : List ℕ) (limits words : Option (List ℕ)) → IsFound plan limits (finding_of v)
-    → HasLine plan v → ShowsVerdict plan limits (finding_of v) (verdict_text v) page → words ≡ words_of v
-    → IsPage plan limits words page
-judged_page v plan page limits words found line shown is = record {
+pub judged_page : (run : Option RunParts) (v : Verdict) (plan page : List ℕ) (limits words : Option (List ℕ)) → IsFound plan limits (finding_of v)
+    → HasLine plan v → ShowsVerdict run plan limits (finding_of v) (verdict_text v) page → words ≡ words_of v
+    → IsRunPage run plan limits words page
+judged_page run v plan page limits words found line shown is = record {
   finding = finding_of v;
   found = found;
   site = shown.site;
@@ -182,3 +207,9 @@ judged_page v plan page limits words found line shown is = record {
       (says_all plan v shown.site line);
   shown = shown.shown;
 }
+
+-- the same with equal words
+pub reworded : (run : Option RunParts) (plan page : List ℕ) (limits words others : Option (List ℕ))
+    → IsRunPage run plan limits others page → words ≡ others → IsRunPage run plan limits words page
+reworded run plan page limits words others shown same =
+    subst (λ ws. IsRunPage run plan limits ws page) (sym same) shown

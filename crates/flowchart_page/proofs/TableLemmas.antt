@@ -28,7 +28,7 @@ use Rattle.flowchart_page.specs.private.TableViews.{AddsCells, AddsRow, AddsName
 pub adds_html : (html old new : List ℕ) → new ≡ old ++ html → AddsInTurn [] old new
 adds_html html old new is = adds_behind [] html old old new is (adds_none old)
 
-one_text : (text old new : List ℕ) → new ≡ old ++ text → AddsInTurn (text ∷ []) old new
+pub one_text : (text old new : List ℕ) → new ≡ old ++ text → AddsInTurn (text ∷ []) old new
 one_text text old new is = record { more = text; grown = is; stand = ([], [], sym (append-nil text), tt) }
 
 -- other HTML between texts and behind them, where that adds none

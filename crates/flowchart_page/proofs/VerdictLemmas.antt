@@ -56,6 +56,13 @@ judged_accepted plan file None p is h = inl (
       h.accepted,
 )
 
+pub plan_accepted : (plan file : TextFile) (limits : Option TextFile) (p : Seen)
+    → named_text file ≡ file_or_none (option_map (λ f. named_text f) limits)
+    → IsAcceptedAs plan.bytes.now file.bytes.now p
+    → IsAcceptedAs plan.bytes.now (unwrap_or (option_map (λ f. f.bytes.now) limits) []) p
+plan_accepted plan file (Some l) p is h = subst (λ f. IsAcceptedAs plan.bytes.now f.bytes p) is h
+plan_accepted plan file None p is h = subst (λ f. IsAcceptedAs plan.bytes.now f.bytes p) is h
+
 -- ---- a plan alone, with an input that has no limit
 
 lacks_name : (plan : List ℕ) (r : PlanRefusal) → lacks_limit r ≡ true → IsRefused plan [] r

@@ -1,9 +1,11 @@
 pub mod Verdicts
 pub mod Findings
+pub mod Judged
 pub mod Styles
 pub mod Heads
 pub mod Ranges
 pub mod Declarations
+pub mod Runs
 pub mod Pages
 pub mod Sites
 pub mod private

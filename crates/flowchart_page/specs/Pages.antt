@@ -23,6 +23,7 @@ use Rattle.flowchart_methods.specs.Turns.{StandInTurn}
 use Rattle.flowchart_methods.specs.Captions.{AreCaptions, methods_of}
 use Rattle.flowchart_page.specs.Findings.{Finding, accepted, in_order, refused, IsFound, marked}
 use Rattle.flowchart_page.specs.Heads.{page_head}
+use Rattle.flowchart_page.specs.Runs.{RunParts, run_texts, run_marks}
 use Rattle.flowchart_page.specs.Declarations.{IsDeclarationTable}
 
 -- the last line of a page
@@ -118,34 +119,41 @@ pub record IsPlanTable (plan : List ℕ) (file : Option (List ℕ)) (finding : F
   pub table : IsDeclarationTable (record { notes = notes; limits = limits; finding = finding; site = site }) tree texts
 
 -- What a page says of a plan of these elements, one text behind another: the table of its declarations, and the captions of its
--- methods. Where its refusal names a statement by its method's name and its number, the one of that number is marked in each method
--- of that name, and no other, and the verdict leads to it.
-pub record AreTreeTexts (plan : List ℕ) (file : Option (List ℕ)) (finding : Finding) (site : Site) (tree : ElementTree)
-    (texts : List (List ℕ)) : Type 0 where
+-- methods, which say what a run did. Where its refusal names a statement by its method's name and its number, the one of that number is
+-- marked in each method of that name, and no other, and the verdict leads to it.
+pub record AreTreeTexts (run : Option RunParts) (plan : List ℕ) (file : Option (List ℕ)) (finding : Finding) (site : Site)
+    (tree : ElementTree) (texts : List (List ℕ)) : Type 0 where
   pub names : named_statement site ≡ marked finding
   pub table : List (List ℕ)
   pub is_table : IsPlanTable plan file finding site tree table
   pub captions : List (List ℕ)
-  pub are_captions : AreCaptions (marked finding) (methods_of tree) captions
+  pub are_captions : AreCaptions (marked finding) (run_marks run) (methods_of tree) captions
   pub is : texts ≡ table ++ captions
 
 -- what a page says of a plan; of a file that isn't read as a plan nothing
-abbrev pub ArePlanTexts : List ℕ → Option (List ℕ) → Finding → Site → List (List ℕ) → Type 0
-ArePlanTexts plan file finding site texts =
-    ((tree : ElementTree) × IsElements plan tree × AreTreeTexts plan file finding site tree texts)
+abbrev pub ArePlanTexts : Option RunParts → List ℕ → Option (List ℕ) → Finding → Site → List (List ℕ) → Type 0
+ArePlanTexts run plan file finding site texts =
+    ((tree : ElementTree) × IsElements plan tree × AreTreeTexts run plan file finding site tree texts)
     ⊎ ((fault : ReadFault) × IsFault plan fault × (site ≡ Nowhere) × (texts ≡ []))
 
--- a whole page with this verdict, and behind it what it says of the plan
-pub record Shows (plan : List ℕ) (file : Option (List ℕ)) (finding : Finding) (site : Site) (verdict page : List ℕ) : Type 0 where
+-- a whole page with this verdict, and behind it this of a run and then what it says of the plan
+pub record Shows (run : Option RunParts) (plan : List ℕ) (file : Option (List ℕ)) (finding : Finding) (site : Site)
+    (verdict page : List ℕ) : Type 0 where
   pub texts : List (List ℕ)
-  pub are_texts : ArePlanTexts plan file finding site texts
-  pub whole : IsWholePage verdict texts page
+  pub are_texts : ArePlanTexts run plan file finding site texts
+  pub whole : IsWholePage verdict (run_texts run ++ texts) page
 
--- the verdict on the page is what is found of the plan, with the range file or without one, and it has these words on a refusal
-pub record IsPage (plan : List ℕ) (limits : Option (List ℕ)) (words : Option (List ℕ)) (page : List ℕ) : Type 0 where
+-- the verdict on the page is what is found of the plan, with the range file or without one, it has these words on a refusal, and the
+-- page has this of a run
+pub record IsRunPage (run : Option RunParts) (plan : List ℕ) (limits : Option (List ℕ)) (words : Option (List ℕ)) (page : List ℕ)
+    : Type 0 where
   pub finding : Finding
   pub found : IsFound plan limits finding
   pub site : Site
   pub verdict : List ℕ
   pub says : Says plan finding words site verdict
-  pub shown : Shows plan limits finding site verdict page
+  pub shown : Shows run plan limits finding site verdict page
+
+-- the page of a plan, without a run
+abbrev pub IsPage : List ℕ → Option (List ℕ) → Option (List ℕ) → List ℕ → Type 0
+IsPage plan limits words page = IsRunPage None plan limits words page

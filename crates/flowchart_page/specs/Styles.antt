@@ -5,8 +5,8 @@ use Rattle.std.specs.List.{join_with_byte}
 -- its lines
 abbrev pub style_lines : List (List ℕ)
 style_lines =
-    codes ":root{color-scheme:light dark;--bg:#fff;--fg:#1b1f24;--mute:#5b6470;--rule:#d5dae0;--line:#4b5560;--box:#fff;--boxl:#4b5560;--dec:#fff6dc;--decl:#a87900;--exe:#e8f1fc;--exel:#2b66b1;--term:#e9ecef;--link:#1556a8;--bad:#c4151c;--badbg:#fde8e8;--ok:#1d7a3d;--head:#f4f6f8}" ∷
-    codes "@media (prefers-color-scheme:dark){:root{--bg:#15181c;--fg:#e4e8ec;--mute:#929ca7;--rule:#333a42;--line:#9aa5b1;--box:#1c2126;--boxl:#8b96a2;--dec:#352c12;--decl:#d3a432;--exe:#15283f;--exel:#6aa3e8;--term:#2b3138;--link:#7fb3f2;--bad:#ff6b6b;--badbg:#471a1c;--ok:#63c785;--head:#1d2227}}" ∷
+    codes ":root{color-scheme:light dark;--bg:#fff;--fg:#1b1f24;--mute:#5b6470;--rule:#d5dae0;--line:#4b5560;--box:#fff;--boxl:#4b5560;--dec:#fff6dc;--decl:#a87900;--exe:#e8f1fc;--exel:#2b66b1;--term:#e9ecef;--link:#1556a8;--bad:#c4151c;--badbg:#fde8e8;--ok:#1d7a3d;--ran:#6b2fb3;--head:#f4f6f8}" ∷
+    codes "@media (prefers-color-scheme:dark){:root{--bg:#15181c;--fg:#e4e8ec;--mute:#929ca7;--rule:#333a42;--line:#9aa5b1;--box:#1c2126;--boxl:#8b96a2;--dec:#352c12;--decl:#d3a432;--exe:#15283f;--exel:#6aa3e8;--term:#2b3138;--link:#7fb3f2;--bad:#ff6b6b;--badbg:#471a1c;--ok:#63c785;--ran:#c9a6ff;--head:#1d2227}}" ∷
     codes "*{box-sizing:border-box}" ∷
     codes "body{margin:0;padding:24px 28px 60px;background:var(--bg);color:var(--fg);font:15px/1.45 system-ui,\"Segoe UI\",\"Helvetica Neue\",\"DejaVu Sans\",Arial,sans-serif}" ∷
     codes "h1{font-size:26px;margin:0 0 6px}h1 small{font-weight:400;color:var(--mute);font-size:16px}" ∷
@@ -44,9 +44,13 @@ style_lines =
     codes "svg .c{fill:var(--mute);font:italic 11.5px system-ui,\"DejaVu Sans\",Arial,sans-serif}.k{fill:none;stroke:var(--mute);stroke-width:1;stroke-dasharray:2 2}" ∷
     codes ".s.bad rect:not(.x){fill:var(--badbg);stroke:var(--bad);stroke-width:1.5}.s.bad text{fill:var(--bad)}.s.bad .x,.d.bad,.t.bad{fill:var(--badbg);stroke:var(--bad);stroke-width:2}" ∷
     codes ".s,.m{scroll-margin-top:24px}.s:target text{fill:var(--link);font-weight:700}.s.bad:target text{fill:var(--bad)}" ∷
+    codes ".run table{display:inline-table;width:auto;vertical-align:top;margin:0 40px 12px 0}.run caption{text-align:left;font-weight:600;padding:0 0 4px}.run td{text-align:right}.run td:nth-child(3){text-align:left;color:var(--mute)}" ∷
+    codes "ol.run{max-height:30em;overflow:auto;margin:4px 0 12px;padding:0 0 0 4.5em;border:1px solid var(--rule);font-size:13px;line-height:1.7}ol.run span{color:var(--mute);font-size:12px}ol.run em{font-style:normal;font-weight:700;color:var(--ran);margin:0 6px;font-family:ui-monospace,\"DejaVu Sans Mono\",Menlo,Consolas,monospace;font-size:12.5px}li:target{outline:2px solid var(--ran)}" ∷
+    codes ".blocked{border-left:4px solid var(--bad);padding:4px 10px}" ∷
+    codes ".traced :is(.s,.b,.d,.l,.a,.y,.e):not(.ran){opacity:.45}.b.ran,.d.ran,.s.ran .x,.s.ran .xx{stroke:var(--ran);stroke-width:1.8}.l.ran{stroke:var(--ran);stroke-width:2.4}.a.ran{fill:var(--ran)}svg .v{fill:var(--ran);font-weight:700}svg .y.ran,svg .e.ran{fill:var(--ran);font-weight:700}.s.ran a .p{fill:var(--link);text-decoration:underline}" ∷
     codes "@media (min-width:1150px){.cols{display:grid;grid-template-columns:200px minmax(0,1fr);gap:32px}nav{position:sticky;top:0;align-self:start;max-height:100vh;overflow:auto;padding-bottom:20px}nav ul{columns:auto}}" ∷
     codes "@page{size:A4 portrait;margin:10mm 12mm}" ∷
-    codes "@media print{:root{color-scheme:light;--bg:#fff;--fg:#000;--mute:#555;--rule:#bbb;--line:#333;--box:#fff;--boxl:#333;--dec:#fff6dc;--decl:#7a5900;--exe:#e8f1fc;--exel:#1d4f91;--term:#e9ecef;--link:#123f7c;--bad:#b00010;--badbg:#fde8e8;--ok:#1d7a3d;--head:#f0f0f0}body{padding:0;font-size:10pt}table{font-size:8.5pt}code,.num,td:nth-child(2),tbody th[scope=row],.tab span{font-size:8pt}nav ul{font-size:8.5pt}th,td{padding:1.5pt 8pt 1.5pt 0}.cols{display:block}.skip{display:none}#methods{display:block}#methods h2{margin-bottom:8px}tbody tr:first-child{break-after:avoid}.m{break-inside:avoid;margin-bottom:16px}.fig{zoom:.85}svg{break-inside:avoid}h2,h3,.key,.com,.by{break-after:avoid}tr{break-inside:avoid}.scroll{overflow:visible}.scroll table{min-width:0}a{text-decoration:none}}" ∷
+    codes "@media print{:root{color-scheme:light;--bg:#fff;--fg:#000;--mute:#555;--rule:#bbb;--line:#333;--box:#fff;--boxl:#333;--dec:#fff6dc;--decl:#7a5900;--exe:#e8f1fc;--exel:#1d4f91;--term:#e9ecef;--link:#123f7c;--bad:#b00010;--badbg:#fde8e8;--ok:#1d7a3d;--ran:#5a2599;--head:#f0f0f0}body{padding:0;font-size:10pt}table{font-size:8.5pt}code,.num,td:nth-child(2),tbody th[scope=row],.tab span{font-size:8pt}nav ul{font-size:8.5pt}th,td{padding:1.5pt 8pt 1.5pt 0}.cols{display:block}.skip{display:none}#methods{display:block}#methods h2{margin-bottom:8px}tbody tr:first-child{break-after:avoid}.m{break-inside:avoid;margin-bottom:16px}.fig{zoom:.85}svg{break-inside:avoid}h2,h3,.key,.com,.by{break-after:avoid}tr{break-inside:avoid}ol.run{max-height:none;overflow:visible}.scroll{overflow:visible}.scroll table{min-width:0}a{text-decoration:none}}" ∷
     []
 
 -- the style sheet of each page: no rule of it hides a verdict

@@ -1,15 +1,19 @@
 //! The whole page.
-ghost use Rattle.std.specs.Prelude.{◌≡◌, [], Some, option_map, IfOk, string_bytes};
+ghost use Rattle.std.specs.Prelude.{◌≡◌, ◌++◌, [], Some, option_map, IfOk, OnOk, string_bytes};
 ghost use Rattle.std.specs.List.{flat_map};
 ghost use Rattle.pap_reader.specs.Trees.{tree_of};
 ghost use Rattle.flowchart_methods.specs.Chapters.{chapter_captions};
+ghost use Rattle.flowchart_methods.specs.Turns.{AddsInTurn};
 ghost use Rattle.plain_words.specs.Places.{named_text};
 ghost use Rattle.flowchart_page.specs.Verdicts.{IsJudged};
 ghost use Rattle.flowchart_methods.specs.declared.site.Site.TheVariants.{Nowhere};
-ghost use Rattle.flowchart_page.specs.Pages.{IsWholePage, AreLimits, IsPage};
+ghost use Rattle.flowchart_page.specs.Findings.{IsFound};
+ghost use Rattle.flowchart_page.specs.Judged.{finding_of, words_of, HasLine};
+ghost use Rattle.flowchart_page.specs.Pages.{IsWholePage, AreLimits, IsPage, IsRunPage};
+ghost use Rattle.flowchart_page.specs.Runs.{run_parts, run_texts, run_marks};
 ghost use Rattle.flowchart_page.specs.private.PageViews.{IsAround, ShowsTree, ShowsRead, HasTable, IsBehind, ShowsVerdict};
 ghost use Rattle.flowchart_page.specs.private.SourceViews.{table_source};
-ghost use Rattle.flowchart_page.specs.private.VerdictViews.{finding_of, words_of, verdict_text};
+ghost use Rattle.flowchart_page.specs.private.VerdictViews.{verdict_text};
 
 use crate::declarations::{Declarations, write_declarations};
 use crate::header::{Head, push_head, push_own, push_page, push_verdict};
@@ -18,7 +22,8 @@ use crate::site::site_shown;
 use crate::verdict::{Reason, Verdict, judge};
 use flowchart_markup::{Fill, Page};
 use flowchart_methods::{
-    Chapter, Site, read_chapters, write_last_paragraph, write_methods, write_paragraphs,
+    Chapter, MethodMarks, Site, read_chapters, write_last_paragraph, write_methods,
+    write_paragraphs,
 };
 use limits_file::{Limits, LimitsFault, read_limits};
 use pap_reader::{Elements, ReadFault, read_elements};
@@ -35,10 +40,31 @@ pub struct Chart {
     pub reason: Option<String>,
 }
 
+/// What a page shows of a run.
+#[derive(Clone, Copy)]
+pub struct RunShown<'a> {
+    /// The part of the page that tells of the run: it stands above the index of the methods.
+    pub part: &'a Page,
+    /// What the run did at the statements of each method, MAIN first; nothing where they aren't marked.
+    pub marks: &'a [MethodMarks],
+}
+
+impl<'a> RunShown<'a> {
+    /// What a run did at the statements of each method: nothing where there is no run.
+    fn marks(run: Option<RunShown<'a>>) -> &'a [MethodMarks]
+        ensures { result.now ≡ run_marks (option_map run_parts run.entry) }
+    {
+        match run {
+            Some(run) => run.marks,
+            None => &[],
+        }
+    }
+}
+
 /// The page of a plan's bytes: with a range file whether the plan is accepted with it, without one what can be said before.
 /// The name of the plan's file stands for the plan's own name where that has none. Takes time linear in the plan, beside what
 /// judging it takes and a look through the range file's tables for each input, and fails only for want of memory.
-#[tactic(auto, using(crate::proofs::PageLemmas::judged_page))]
+#[tactic(auto, using(crate::proofs::PageLemmas::reworded))]
 pub fn draw_chart(
     alloc: Global,
     plan: TextFile<'_>,
@@ -54,11 +80,31 @@ pub fn draw_chart(
         (option_map (λ words. string_bytes words) chart.reason) chart.page.items) }
 {
     let verdict = judge(alloc, plan, limits)?;
-    let page = write_chart(alloc, plan, limits, &verdict)?;
+    let page = draw_judged(alloc, plan, limits, &verdict, None)?;
     Ok(Chart {
         page,
         reason: words_of(verdict),
     })
+}
+
+/// The page of a plan that is judged, with what it shows of a run, where there is one. Takes time linear in the plan, beside a look
+/// through the range file's tables for each input, and fails only for want of memory.
+#[tactic(auto, using(crate::proofs::PageLemmas::judged_page))]
+pub fn draw_judged(
+    alloc: Global,
+    plan: TextFile<'_>,
+    limits: Option<TextFile<'_>>,
+    verdict: &Verdict,
+    run: Option<RunShown<'_>>,
+) -> Result<Vec<u8>, AllocError>
+    requires found { IsFound plan.bytes.now
+        (option_map (λ file. file.bytes.now) limits) (finding_of verdict.now) }
+    requires line { HasLine plan.bytes.now verdict.now }
+    ensures { IfOk result (λ page. IsRunPage (option_map run_parts run.entry)
+        plan.entry.bytes.now (option_map (λ file. file.bytes.now) limits.entry)
+        (words_of verdict.now) page.items) }
+{
+    write_chart(alloc, plan, limits, verdict, run)
 }
 
 /// The words of a verdict's reason.
@@ -78,15 +124,17 @@ fn write_chart(
     plan: TextFile<'_>,
     limits: Option<TextFile<'_>>,
     verdict: &Verdict,
+    run: Option<RunShown<'_>>,
 ) -> Result<Vec<u8>, AllocError>
-    ensures { IfOk result (λ page. ShowsVerdict plan.entry.bytes.now
+    ensures { IfOk result (λ page. ShowsVerdict
+        (option_map run_parts run.entry) plan.entry.bytes.now
         (option_map (λ file. file.bytes.now) limits.entry) (finding_of verdict.now)
         (verdict_text verdict.now) page.items) }
 {
     match read_elements(alloc, plan.bytes) {
-        Ok(elements) => Ok(read_page(alloc, plan, limits, verdict, &elements)?),
+        Ok(elements) => Ok(read_page(alloc, plan, limits, verdict, run, &elements)?),
         Err(ReadFault::Memory) => Err(AllocError),
-        Err(_) => Ok(empty_page(alloc, plan.name, verdict)?),
+        Err(_) => Ok(empty_page(alloc, plan.name, verdict, run)?),
     }
 }
 
@@ -96,9 +144,11 @@ fn read_page(
     plan: TextFile<'_>,
     limits: Option<TextFile<'_>>,
     verdict: &Verdict,
+    run: Option<RunShown<'_>>,
     elements: &Elements,
 ) -> Result<Vec<u8>, AllocError>
-    ensures { IfOk result (λ page. ShowsTree plan.entry.bytes.now
+    ensures { IfOk result (λ page. ShowsTree
+        (option_map run_parts run.entry) plan.entry.bytes.now
         (option_map (λ file. file.bytes.now) limits.entry) (finding_of verdict.now)
         (verdict_text verdict.now) (tree_of elements.now) page.items) }
 {
@@ -109,6 +159,7 @@ fn read_page(
         notes: &notes,
         limits: &limits,
         verdict,
+        run,
     };
     plan_page(alloc, elements, source)
 }
@@ -141,18 +192,26 @@ struct Source<'a> {
     notes: &'a Notes,
     limits: &'a Option<Limits>,
     verdict: &'a Verdict,
+    /// What is told of a run.
+    run: Option<RunShown<'a>>,
 }
 
-/// The page of a file that is no plan: its head alone.
-fn empty_page(alloc: Global, file: &str, verdict: &Verdict) -> Result<Vec<u8>, AllocError>
-    ensures { IfOk result (λ page.
-        IsWholePage (verdict_text verdict.now Nowhere) [] page.items) }
+/// The page of a file that is no plan: its head alone, and what is told of a run.
+fn empty_page(
+    alloc: Global,
+    file: &str,
+    verdict: &Verdict,
+    run: Option<RunShown<'_>>,
+) -> Result<Vec<u8>, AllocError>
+    ensures { IfOk result (λ page. IsWholePage (verdict_text verdict.now Nowhere)
+        (run_texts (option_map run_parts run.entry) ++ []) page.items) }
 {
     let mut rest = Page::new(alloc);
     rest.put(
         "<p class=\"sub\" id=\"methods\">There is nothing to draw: the file is not read as a flowchart.</p></header>",
         &[],
     )?;
+    append_run(&mut rest, run)?;
     let head = Head {
         title: file,
         version: None,
@@ -182,12 +241,14 @@ fn page_of(
 
 /// The page of a plan with its methods.
 fn plan_page(alloc: Global, elements: &Elements, source: Source<'_>) -> Result<Vec<u8>, AllocError>
-    ensures { IfOk result (λ page. ShowsRead source.entry.notes.now source.entry.limits.now
+    ensures { IfOk result (λ page. ShowsRead (option_map run_parts source.entry.run)
+        source.entry.notes.now source.entry.limits.now
         (finding_of source.entry.verdict.now) (verdict_text source.entry.verdict.now)
         (tree_of elements.now) page.items) }
 {
     let site = site_shown(elements, source.verdict);
-    let chapters = read_chapters(alloc, elements, source.notes, &site)?;
+    let marks = RunShown::marks(source.run);
+    let chapters = read_chapters(alloc, elements, source.notes, &site, marks)?;
     whole_page(alloc, elements, source, &chapters, &site)
 }
 
@@ -199,7 +260,8 @@ fn whole_page(
     chapters: &[Chapter<'_>],
     site: &Site,
 ) -> Result<Vec<u8>, AllocError>
-    ensures { IfOk result (λ page. HasTable (table_source source.entry site.now) (tree_of elements.now)
+    ensures { IfOk result (λ page. HasTable (option_map run_parts source.entry.run)
+        (table_source source.entry site.now) (tree_of elements.now)
         (flat_map chapter_captions chapters.now) (verdict_text source.entry.verdict.now site.now)
         page.items) }
 {
@@ -215,10 +277,14 @@ fn behind_verdict(
     chapters: &[Chapter<'_>],
     site: &Site,
 ) -> Result<Page, AllocError>
-    ensures { IfOk result (IsBehind (table_source source.entry site.now) (tree_of elements.now)
+    ensures { IfOk result (IsBehind (option_map run_parts source.entry.run)
+        (table_source source.entry site.now) (tree_of elements.now)
         (flat_map chapter_captions chapters.now)) }
 {
-    let mut page = before_table(alloc, chapters, site)?;
+    let mut page = counts_of(alloc, chapters)?;
+    append_run(&mut page, source.run)?;
+    let is_traced = source.run.is_some_and(|run| !run.marks.is_empty());
+    page.append(&index_of(alloc, chapters, site, is_traced)?)?;
     let declarations = Declarations {
         elements,
         notes: source.notes,
@@ -251,11 +317,34 @@ fn head_of<'a>(source: Source<'a>) -> Head<'a> {
     }
 }
 
-/// What stands between the sentence on a plan and its declarations: the number of its methods, and their index.
-fn before_table(alloc: Global, chapters: &[Chapter<'_>], site: &Site) -> Result<Page, AllocError> {
+/// Appends what is told of a run, where there is one.
+fn append_run(page: &mut Page, run: Option<RunShown<'_>>) -> Result<(), AllocError>
+    ensures { OnOk result (AddsInTurn (run_texts (option_map run_parts run.entry))
+        page.old page.new) }
+{
+    match run {
+        Some(run) => page.append(run.part),
+        None => Ok(()),
+    }
+}
+
+/// How many methods and statements there are.
+fn counts_of(alloc: Global, chapters: &[Chapter<'_>]) -> Result<Page, AllocError> {
     let mut page = Page::new(alloc);
     write_counts(&mut page, chapters)?;
-    write_index(&mut page, chapters, site)?;
+    Ok(page)
+}
+
+/// The index of the methods, which stands before the declarations. Where the way of a run is marked in the drawings, the rest of them is
+/// pale.
+fn index_of(
+    alloc: Global,
+    chapters: &[Chapter<'_>],
+    site: &Site,
+    is_traced: bool,
+) -> Result<Page, AllocError> {
+    let mut page = Page::new(alloc);
+    write_index(&mut page, chapters, site, is_traced)?;
     Ok(page)
 }
 

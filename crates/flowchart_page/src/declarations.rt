@@ -6,7 +6,7 @@ ghost use Rattle.pap_reader.specs.Trees.{raw_declaration_of, tree_of};
 ghost use Rattle.flowchart_page.specs.Declarations.{value_cells, table_item_text, table_items_text, comments_above, items_cell, literal_cells, row_start, is_named, group_title, group_heading};
 ghost use Rattle.flowchart_page.specs.Ranges.{range_shown, output_text};
 ghost use Rattle.flowchart_page.specs.private.TableViews.{source_of, AddsCells, AddsRow, AddsNamed, AddsRows, AddsGroup, AddsTable};
-ghost use Rattle.flowchart_page.specs.private.VerdictViews.{finding_of};
+ghost use Rattle.flowchart_page.specs.Judged.{finding_of};
 ghost use Rattle.flowchart_methods.specs.Turns.{AddsInTurn};
 
 use crate::ranges::{input_range, output_range};

@@ -7,11 +7,12 @@ use std::alloc::AllocError;
 const KEY: &str =
     "<section id=\"methods\"><h2>Drawings</h2>\n<div class=\"key\"><svg aria-hidden=\"true\" width=\"566\" height=\"26\" viewBox=\"0 0 566 26\"><path class=\"d\" d=\"M2 13l10-10h34l10 10l-10 10h-34z\"/><text class=\"c\" x=\"63\" y=\"17\">test</text><rect class=\"b\" x=\"104\" y=\"3\" width=\"44\" height=\"20\"/><text class=\"c\" x=\"155\" y=\"17\">assignments</text><rect class=\"x\" x=\"242\" y=\"3\" width=\"44\" height=\"20\"/><path class=\"xx\" d=\"M247 3v20M281 3v20\"/><text class=\"c\" x=\"293\" y=\"17\">another method</text><path class=\"k\" d=\"M402 13h10M418 3h-6v20h6\"/><text class=\"c\" x=\"424\" y=\"17\">comment of the file</text></svg><p>After a test, <i>yes</i> goes one step to the right and <i>no</i> straight down, unless the words beside the lines say otherwise. The grey words are the places of the statements, as refusals name them.</p></div>\n";
 
-/// Appends the index of the methods.
+/// Appends the index of the methods. `is_traced` says that the way of a run is marked in the drawings.
 pub(crate) fn write_index(
     page: &mut Page,
     chapters: &[Chapter<'_>],
     site: &Site,
+    is_traced: bool,
 ) -> Result<(), AllocError> {
     page.put(
         "<div class=\"cols\"><nav aria-labelledby=\"index\"><h2 id=\"index\">Methods</h2><ul>\n",
@@ -20,10 +21,17 @@ pub(crate) fn write_index(
     for chapter in chapters {
         write_entry(page, chapter, site)?;
     }
-    page.put(
-        "</ul><p><a href=\"#declarations\">Declarations</a></p></nav><main>\n",
-        &[],
-    )
+    if is_traced {
+        page.put(
+            "</ul><p><a href=\"#declarations\">Declarations</a></p></nav><main class=\"traced\">\n",
+            &[],
+        )
+    } else {
+        page.put(
+            "</ul><p><a href=\"#declarations\">Declarations</a></p></nav><main>\n",
+            &[],
+        )
+    }
 }
 
 /// Appends the entry of a method: a link to it, and how many statements it has.

@@ -10,4 +10,5 @@ mod site;
 mod style;
 mod verdict;
 
-pub use chart::{Chart, draw_chart};
+pub use chart::{Chart, RunShown, draw_chart, draw_judged};
+pub use verdict::{Reason, Verdict, judge};

@@ -5,7 +5,7 @@ ghost use Rattle.flowchart_page.specs.Sites.{named_by, named_by_spot, named_by_t
 ghost use Rattle.flowchart_page.specs.private.Sites.{has_row, has_method, site_of_name, site_of};
 ghost use Rattle.flowchart_methods.specs.Sites.{named_statement};
 ghost use Rattle.flowchart_page.specs.Findings.{marked};
-ghost use Rattle.flowchart_page.specs.private.VerdictViews.{finding_of};
+ghost use Rattle.flowchart_page.specs.Judged.{finding_of};
 ghost use Rattle.flowchart_page.specs.private.SiteViews.{site_shown, declares, names_method};
 
 use crate::verdict::Verdict;

@@ -4,8 +4,9 @@ ghost use Rattle.plain_words.specs.Places.{named_text, files_of};
 ghost use Rattle.plan_answers.specs.Refusals.{HasItsPlan};
 ghost use Rattle.flowchart_page.specs.Verdicts.{lacks_limit, file_or_none, IsJudged};
 ghost use Rattle.flowchart_page.specs.Findings.{IsFound};
+ghost use Rattle.flowchart_page.specs.Judged.{finding_of, words_of, HasLine, HasPlan};
 ghost use Rattle.flowchart_page.specs.Pages.{IsRefusalLine};
-ghost use Rattle.flowchart_page.specs.private.VerdictViews.{finding_of, words_of, HasLine, is_excused, SaysRefusal};
+ghost use Rattle.flowchart_page.specs.private.VerdictViews.{is_excused, SaysRefusal};
 
 use pap_plan::{Plan, PlanRefusal, accept};
 use plain_words::{TextFile, plan_words};
@@ -14,17 +15,19 @@ use std::alloc::{AllocError, Global};
 
 /// What is said of a plan.
 #[derive(Drop)]
-pub(crate) enum Verdict {
+pub enum Verdict {
     /// It is accepted, with the range file or because it has no inputs.
     Accepted(Plan),
     /// There is no range file, and all that is judged before the limits of inputs is in order.
     InOrder,
+    /// It is refused.
     Refused(Reason),
 }
 
 /// A refusal as it is written.
 #[derive(Drop)]
-pub(crate) struct Reason {
+pub struct Reason {
+    /// The refusal itself.
     pub refusal: PlanRefusal,
     /// The line of standard output, without its end.
     pub line: Vec<u8>,
@@ -33,8 +36,8 @@ pub(crate) struct Reason {
 }
 
 /// Judges a plan, with a range file or without one, that is with an empty one: the first refusal
-/// that comes of that is an input without a limit, and all that is judged before is then in order.
-pub(crate) fn judge(
+/// that comes of that is an input without a limit, and all that is judged before is then in order. Fails only for want of memory.
+pub fn judge(
     alloc: Global,
     plan: TextFile<'_>,
     limits: Option<TextFile<'_>>,
@@ -44,6 +47,8 @@ pub(crate) fn judge(
     ensures judged { IfOk result (λ verdict. IsJudged (named_text plan.entry)
         (option_map (λ file. named_text file) limits.entry) (words_of verdict)) }
     ensures line { IfOk result (HasLine plan.entry.bytes.now) }
+    ensures plan { IfOk result (HasPlan plan.entry.bytes.now
+        (option_map (λ file. file.bytes.now) limits.entry)) }
 {
     let ranges = file_or_none(limits);
     match accept(alloc, plan.bytes, ranges.bytes) {

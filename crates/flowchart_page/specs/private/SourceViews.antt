@@ -2,7 +2,7 @@
 use Rattle.flowchart_methods.specs.declared.site.Site.{Site}
 use Rattle.flowchart_page.specs.declared.chart.Source.{Source}
 use Rattle.flowchart_page.specs.Declarations.{TableSource}
-use Rattle.flowchart_page.specs.private.VerdictViews.{finding_of}
+use Rattle.flowchart_page.specs.Judged.{finding_of}
 
 abbrev pub table_source : Source → Site → TableSource
 table_source source site =

@@ -7,7 +7,7 @@ use Rattle.flowchart_methods.specs.Turns.{AddsInTurn}
 use Rattle.flowchart_page.specs.declared.declarations.Declarations.{Declarations}
 use Rattle.flowchart_page.specs.Declarations.{AreCells, IsRow, TableSource, is_named, AreRows, IsGroup, IsDeclarationTable}
 use Rattle.flowchart_page.specs.Ranges.{range_shown}
-use Rattle.flowchart_page.specs.private.VerdictViews.{finding_of}
+use Rattle.flowchart_page.specs.Judged.{finding_of}
 
 -- what the table shows of these
 abbrev pub source_of : Declarations → TableSource

@@ -1,5 +1,5 @@
 -- The verdict as the code has it.
-use Rattle.std.specs.Prelude.{ℕ, Bool, List, Option, Some, None, ◌&&◌, string_bytes, ⊤}
+use Rattle.std.specs.Prelude.{ℕ, Bool, List, ◌&&◌, string_bytes}
 use Rattle.pap_types.specs.Meaning.{bound_of}
 use Rattle.pap_plan.specs.declared.refusal.PlanRefusal.{PlanRefusal}
 use Rattle.pap_plan.specs.Plans.{meaning}
@@ -8,32 +8,15 @@ use Rattle.plain_words.specs.Places.{PlanFiles}
 use Rattle.plain_words.specs.Refusals.{BeginsAtRefusal}
 use Rattle.flowchart_page.specs.Verdicts.{lacks_limit}
 use Rattle.flowchart_methods.specs.declared.site.Site.{Site}
-use Rattle.flowchart_page.specs.Pages.{accepted_text, in_order_text, refused_text, IsRefusalLine}
-use Rattle.flowchart_page.specs.Findings.{Finding, accepted, in_order, refused}
+use Rattle.flowchart_page.specs.Pages.{accepted_text, in_order_text, refused_text}
 use Rattle.flowchart_page.specs.declared.verdict.Verdict.{Verdict}
 use Rattle.flowchart_page.specs.declared.verdict.Verdict.TheVariants.{Accepted, InOrder, Refused}
-
--- what it finds
-abbrev pub finding_of : Verdict → Finding
-finding_of (Accepted p) = accepted (meaning p)
-finding_of InOrder = in_order
-finding_of (Refused reason) = refused reason.refusal
-
--- the words of its reason
-abbrev pub words_of : Verdict → Option (List ℕ)
-words_of (Refused reason) = Some (string_bytes reason.words)
-words_of _ = None
 
 -- what a page says of it, with a link to this
 abbrev pub verdict_text : Verdict → Site → List ℕ
 verdict_text (Accepted p) site = accepted_text (bound_of (meaning p).flowchart)
 verdict_text InOrder site = in_order_text
 verdict_text (Refused reason) site = refused_text (string_bytes reason.words) reason.line.items site
-
--- its line is that of `check`, where it is a refusal
-abbrev pub HasLine : List ℕ → Verdict → Type 0
-HasLine plan (Refused reason) = IsRefusalLine plan reason.refusal reason.line.items
-HasLine plan _ = ⊤
 
 -- these words say where a refusal stands
 pub record SaysRefusal (files : PlanFiles) (r : PlanRefusal) (words : List ℕ) : Type 0 where

@@ -1,4 +1,4 @@
-use Rattle.std.proofs.Common.{◌≡◌, ◌<◌, ◌+◌, [], ◌∷◌, ◌++◌, codes, length, get_or, ap, subst, ◌∙◌, length-append}
+use Rattle.std.proofs.Common.{◌≡◌, ◌<◌, ◌+◌, [], ◌∷◌, ◌++◌, codes, length, get_or, ap, subst, ◌∙◌, length-append, arith}
 use Rattle.pap_reader.specs.declared.element.Element.TheVariants.{Method}
 use Rattle.pap_reader.specs.Trees.{RawRoutine, raw_body_of}
 use Rattle.plan_notes.specs.declared.tag.Starts.TheVariants.{Of}
@@ -20,9 +20,9 @@ loop-method-init c =
     let first = c.in_ok-first.ensures in
     let counted = first.count ∙ ap (λ ss. count_of (statements_of (raw_body_of ss))) c.deref.ensures.value in
     record {
-      captions = first_chapter (named_statement c.args.site.now) c.main-main.result (codes "MAIN") c.deref.result.now
-          c.args.elements.now.main.items c.in_ok-first.first old new none pushed c.main-main.ensures
-          c.deref.ensures.value first.chapter;
+      captions = first_chapter (named_statement c.args.site.now) c.args.marks.now c.marks_of-of_main.result.now c.main-main.result
+          (codes "MAIN") c.deref.result.now c.args.elements.now.main.items c.in_ok-first.first old new none pushed
+          c.main-main.ensures c.deref.ensures.value c.marks_of-of_main.ensures first.chapter;
       comments = first_commented c.args.notes.now c.walk-to_main.result c.skip_to-comments.result.now c.in_ok-first.first
           old new none pushed first.comments c.skip_to-comments.ensures.comments c.walk-to_main.ensures.notes
           c.walk-to_main.ensures.left;
@@ -49,9 +49,12 @@ loop-method-preserved c =
     let chapter = c.in_ok-next.next in
     let next = c.in_ok-next.ensures in
     let found = c.skip_to-comments-in-loop-method in
+    let counted : c.len.result ≡ i + 1 = omega (arith, c.loop-method.chapters.ok.0, c.len.ensures, before.number) in
     record {
-      captions = next_chapter (named_statement c.args.site.now) main ms i m c.deref-in-loop-method.result.now chapter
-          old new some at pushed c.deref-in-loop-method.ensures.value next.chapter before.captions;
+      captions = next_chapter (named_statement c.args.site.now) c.args.marks.now c.marks_of-of_next.result.now
+          c.len.result main ms i m c.deref-in-loop-method.result.now chapter old new some at pushed
+          c.deref-in-loop-method.ensures.value c.marks_of-of_next.ensures counted next.chapter
+          before.captions;
       comments = next_commented notes c.loop-method.walk i found.result.now chapter old new pushed before.number
           next.comments found.ensures.comments before.same before.left before.comments;
       counts = next_count main ms i m c.deref-in-loop-method.result.now chapter old new some at pushed

@@ -15,7 +15,7 @@ use Rattle.flowchart_methods.proofs.chapter.read_chapters.Given as goal
 -- MAIN and the methods so far
 abbrev pub invariant-loop-method : goal.invariant-loop-method
 invariant-loop-method l = record {
-  captions : AreCaptions (named_statement l.site) (record { name = codes "MAIN"; body = raw_body_of l.elements.main.items }
+  captions : AreCaptions (named_statement l.site) l.marks (record { name = codes "MAIN"; body = raw_body_of l.elements.main.items }
       ∷ map raw_routine_of (take l.method-index l.elements.methods.items))
       (flat_map chapter_captions l.chapters.items);
   comments : AreCommented l.notes 0 l.chapters.items;

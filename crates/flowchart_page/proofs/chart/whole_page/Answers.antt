@@ -1,3 +1,4 @@
+use Rattle.std.specs.Prelude.{option_map}
 use Rattle.std.specs.List.{flat_map}
 use Rattle.std.proofs.lemmas.Result.{IfOk-weaker}
 use Rattle.pap_reader.specs.Trees.{tree_of}
@@ -5,15 +6,17 @@ use Rattle.flowchart_methods.specs.Chapters.{chapter_captions}
 use Rattle.flowchart_page.specs.private.PageViews.{HasTable}
 use Rattle.flowchart_page.specs.private.SourceViews.{table_source}
 use Rattle.flowchart_page.specs.private.VerdictViews.{verdict_text}
+use Rattle.flowchart_page.specs.Runs.{run_parts}
 use Rattle.flowchart_page.proofs.PageLemmas.{table_page}
 use Rattle.flowchart_page.proofs.chart.whole_page.Goals as goal
 
 pub returns : goal.returns
 returns c =
+    let run = option_map run_parts c.args.source.run in
     let source = table_source c.args.source c.args.site.now in
     let tree = tree_of c.args.elements.now in
     let verdict = verdict_text c.args.source.verdict.now c.args.site.now in
     let captions = flat_map chapter_captions c.args.chapters.now in
-    IfOk-weaker c.page_of.result _ (λ page. HasTable source tree captions verdict page.items)
-    (λ page around. table_page source tree captions verdict c.in_ok-rest.rest page.items c.in_ok-rest.ensures around)
+    IfOk-weaker c.page_of.result _ (λ page. HasTable run source tree captions verdict page.items)
+    (λ page around. table_page run source tree captions verdict c.in_ok-rest.rest page.items c.in_ok-rest.ensures around)
     c.page_of.ensures

@@ -22,6 +22,7 @@ returns-then-is_excused c =
           c.file_or_none-ranges.ensures
           excused known c.in-Err.ensures.refused;
       line = tt;
+      plan = tt;
     }
 
 pub returns-in_ok-reason-in-Err : goal.returns-in_ok-reason-in-Err
@@ -39,4 +40,5 @@ returns-in_ok-reason-in-Err c =
       line = line_kept c.args.plan.bytes.now c.in-Err.refusal c.in_ok-reason-in-Err.reason.refusal
           c.in_ok-reason-in-Err.reason.line.items c.in_ok-reason-in-Err.ensures.refusal
           c.in_ok-reason-in-Err.ensures.line;
+      plan = tt;
     }
