@@ -1,0 +1,4 @@
+pub mod CountLemmas
+pub mod PlaceLemmas
+pub mod TallyLemmas
+pub mod Steps
