@@ -4,6 +4,7 @@ use Rattle.outside.specs.FileFaults.{failed_name}
 use Rattle.outside.specs.declared.real.RealFiles.{RealFiles}
 use Rattle.outside.specs.declared.real.StdSource.{StdSource}
 use Rattle.outside.specs.declared.real.StdSink.{StdSink}
+use Rattle.outside.specs.declared.sink_fault.SinkFault.{SinkFault}
 
 -- how many calls failed
 abbrev pub real_faults : {R F D : Type 0} → RealFiles R F D → ℕ
@@ -24,6 +25,10 @@ source_reader s = s.inner
 -- how many calls failed
 abbrev pub sink_faults : {W : Type 0} → StdSink W → ℕ
 sink_faults s = s.faults
+
+-- why the last call that failed did
+abbrev pub sink_fault : {W : Type 0} → StdSink W → Option SinkFault
+sink_fault s = s.fault
 
 -- the writer below
 abbrev pub sink_writer : {W : Type 0} → StdSink W → W

@@ -6,7 +6,7 @@ ghost use Rattle.std.specs.Prelude.{◌≡◌};
 mod wrong_words;
 
 use crate::wrong_words::what_is_wrong;
-use outside::{FailedFile, Files, RealFiles, Sink, Source, StdSink, StdSource};
+use outside::{FailedFile, Files, RealFiles, Sink, SinkFault, Source, StdSink, StdSource};
 use pap_cli::{LineCounts, Status, papcalc_told};
 use plain_words::one_line;
 use std::alloc::Global;
@@ -128,13 +128,12 @@ fn own_answer(words: &[String]) -> Option<&'static str> {
 /// Says on standard error what is wrong. That this may fail changes nothing.
 fn explain(rt: &HostRuntime, status: Status, words: &[String]) {
     let _ = match status {
-        Status::Done | Status::Refused | Status::FileFault => Ok(()),
+        Status::Done | Status::Refused | Status::FileFault | Status::WriteFault => Ok(()),
         Status::BadWords => {
             explain_words(rt, words);
             Ok(())
         }
         Status::ReadFault => eprintln!(rt; "papcalc: standard input can't be read"),
-        Status::WriteFault => eprintln!(rt; "papcalc: standard output can't be written"),
         Status::NoMemory => eprintln!(rt; "papcalc: out of memory"),
         Status::ScriptLong => eprintln!(rt; "papcalc: the script is longer than 67108864 bytes"),
     };
@@ -161,6 +160,11 @@ fn explain_file_fault(rt: &HostRuntime, file: &FailedFile, line: Option<u64>) {
         }
         None => eprintln!(rt; "papcalc: the file `{name}`: {fault}"),
     };
+}
+
+/// Says on standard error why the output can't be written. That this may fail changes nothing.
+fn explain_write_fault(rt: &HostRuntime, fault: SinkFault) {
+    let _ = eprintln!(rt; "papcalc: standard output can't be written: {fault}");
 }
 
 /// The line of the script at which a file failed, where the words ask for a script: the one behind those that were answered.
@@ -215,6 +219,11 @@ fn carried_out(rt: &HostRuntime, words: &[String]) -> ExitCode {
     {
         explain_file_fault(rt, file, failed_line(words, counts));
     }
+    if status == Status::WriteFault
+        && let Some(fault) = sink.fault()
+    {
+        explain_write_fault(rt, fault);
+    }
     end(rt, status, words)
 }
 
@@ -232,7 +241,10 @@ fn main(rt: HostRuntime) -> ExitCode {
     match own_answer(&words) {
         Some(text) => match println!(rt; "{text}") {
             Ok(()) => end(&rt, Status::Done, &[]),
-            Err(_) => end(&rt, Status::WriteFault, &[]),
+            Err(error) => {
+                explain_write_fault(&rt, SinkFault::of(error.kind()));
+                end(&rt, Status::WriteFault, &[])
+            }
         },
         None => carried_out(&rt, &words),
     }
