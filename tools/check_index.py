@@ -9,15 +9,18 @@ import os
 import re
 import sys
 
-ANSWERS = ["plan_answers", "script_steps", "report_csv", "pap_cli", "saved_items", "book_file", "what_if"]
-# What this file says is what the program takes, and not what it prints.
-TAKEN = ["crates/pap_cli/specs/Words.antt"]
+ANSWERS = ["plan_answers", "script_steps", "script_run", "report_csv", "open_runs", "pap_cli", "saved_items", "book_file", "what_if",
+           "run_trace", "flowchart_comparison", "comparison_page", "author_cli"]
+# What these files say is what a program takes, or the files and the script of a sample, and not what is printed.
+TAKEN = [f"crates/{file}.antt" for file in
+         ["pap_cli/specs/Words", "author_cli/specs/Words", "script_run/specs/SampleFiles", "script_run/specs/Samples"]]
 PRINTED = re.compile(r'codes "([^"]*)"')
 
 
 def printed_of(text):
-    """The texts that a part of a definition prints, without the blank that ends them."""
-    return {word.strip() for word in PRINTED.findall(text)} - {"", "="}
+    """The texts that a part of a definition prints, without blanks and line ends round them, and but for mere signs between others."""
+    words = {word.replace(r"\n", "").strip() for word in PRINTED.findall(text)}
+    return {word for word in words if word == "-" or re.search(r"\w", word)}
 
 
 def definition_in(text, name):

@@ -66,9 +66,16 @@ check("a folder in place of a file", run(b"work\nload examples\nwork\n") == (3, 
 for name, why in [("nofile", "there is no such file"), ("examples/nofile/nofile", "there is no such file"), ("examples", "it is a folder")]:
     done = subprocess.run([program, "run"], input=f"load {name}\n".encode(), capture_output=True, timeout=300)
     check(f"why {name} can't be read", done.stderr.decode() == f"stdin:1: the file `{name}`: {why}; the script ends here\n")
-with open("/dev/full", "wb") as full:
-    done = subprocess.run([program, "run"], input=b"work\n", stdout=full, stderr=subprocess.DEVNULL, timeout=300)
-    check("a full output", done.returncode == 5)
+UNWRITTEN = "papcalc: standard output can't be written: "
+for word in ["run", "--help"]:
+    with open("/dev/full", "wb") as full:
+        done = subprocess.run([program, word], input=b"work\n", stdout=full, stderr=subprocess.PIPE, timeout=300)
+        check(f"a full output of {word}", (done.returncode, done.stderr.decode()) == (5, UNWRITTEN + "there is no room left on the device\n"))
+    reader, writer = os.pipe()
+    os.close(reader)
+    done = subprocess.run([program, word], input=b"work\n", stdout=writer, stderr=subprocess.PIPE, timeout=300)
+    os.close(writer)
+    check(f"a closed pipe for {word}", (done.returncode, done.stderr.decode()) == (5, UNWRITTEN + "its reader has closed the pipe\n"))
 folder = os.open("examples", os.O_RDONLY)
 done = subprocess.run([program, "run"], stdin=folder, capture_output=True, timeout=300)
 check("an input that can't be read", (done.returncode, done.stdout) == (4, b""))
@@ -96,6 +103,19 @@ with tempfile.TemporaryDirectory() as folder:
         done = subprocess.run([program, "run"], input=f"load {table}\n".encode(), capture_output=True, timeout=300)
         first = done.stderr.decode().splitlines()[0]
         check(f"a table with {text!r}", done.returncode == 1 and first.startswith(f"stdin:1: {table}:{line}: ") and helps in first)
+    with open("examples/payroll_tax.xml", encoding="utf-8") as plan, open("examples/payroll_tax.toml", encoding="utf-8") as limits:
+        FILES = {"plan.xml": plan.read(), "limits.toml": limits.read()}
+    WRONG_FILES = [
+        ("a flowchart in UTF-16", "plan.xml", "limits.toml", "utf-16", "utf-8", "the file is written in UTF-16"),
+        ("a range file in UTF-16", "plan.xml", "limits.toml", "utf-8", "utf-16", "since it is written in UTF-16"),
+        ("the two files in each other's place", "limits.toml", "plan.xml", "utf-8", "utf-8", "this is a range file"),
+    ]
+    for what, first, second, first_code, second_code, helps in WRONG_FILES:
+        for name, code in [(first, first_code), (second, second_code)]:
+            with open(os.path.join(folder, name), "w", encoding=code) as file:
+                file.write(FILES[name])
+        done = subprocess.run([program, "check", first, second], cwd=folder, capture_output=True, timeout=300)
+        check(what, done.returncode == 1 and helps in done.stderr.decode())
 check("a longest line", run(b"#" * 65_536 + b"\r\nwork\n") == (0, b"work 0 0\n"))
 for name in failed:
     print(f"run_trials: failed: {name}")
