@@ -46,6 +46,8 @@ struct Fork<'a> {
     no: &'a [Stmt],
 }
 
+// The walk goes as deep as statements are nested, 2,048 levels at most. What it calls on the way down stays out of line, so that a level
+// takes less of the stack.
 impl Walk<'_> {
     /// Takes the ranges of the variables through statements of a method, the first of which stands there. Answers the number
     /// behind them, or the first node that may fail.
@@ -111,7 +113,6 @@ impl Walk<'_> {
     }
 
     /// Gives a target the range of a value.
-    // Out of line for the same reason as `Visits::mark`: the frame of `walk_body` stands once for each nested statement.
     #[inline(never)]
     fn assign(
         &self,
@@ -157,6 +158,7 @@ impl Walk<'_> {
 
     /// Walks each list that can be reached, and joins the ranges where both can.
     #[cycle(statements)]
+    #[inline(never)]
     fn walk_if<'b>(
         &self,
         spot: Spot,
@@ -221,6 +223,7 @@ impl Walk<'_> {
     }
 
     #[cycle(statements)]
+    #[inline(never)]
     fn walk_first(
         &self,
         spot: Spot,
@@ -246,6 +249,7 @@ impl Walk<'_> {
     }
 
     #[cycle(statements)]
+    #[inline(never)]
     fn walk_second(
         &self,
         spot: Spot,
@@ -335,6 +339,7 @@ impl Walk<'_> {
 
     /// Walks the first list, and from the ranges of before it the second one.
     #[cycle(statements)]
+    #[inline(never)]
     fn walk_second_last(
         &self,
         spot: Spot,
@@ -374,6 +379,7 @@ impl Walk<'_> {
 
     /// Walks the second list, and from the ranges of before it the first one, whose fault counts before that of the second.
     #[cycle(statements)]
+    #[inline(never)]
     fn walk_first_last(
         &self,
         spot: Spot,
@@ -417,6 +423,7 @@ impl Walk<'_> {
 
     /// Walks the body of a method in place.
     #[cycle(statements)]
+    #[inline(never)]
     fn walk_method(
         &self,
         name: &Name,
