@@ -36,7 +36,7 @@ abbrev pub expression_help : ExprFault → Option (List ℕ)
 expression_help (expressions.BinaryFraction at) =
     Some (codes "write the number in quotation marks, as in new BigDecimal(\"0.4\"), or BigDecimal.valueOf(0.4)")
 expression_help (expressions.Number at) =
-    Some (codes "an int goes up to 2147483647, a long, with L behind it, up to 9223372036854775807, "
+    Some (codes "a scale goes up to 30, an int up to 2147483647, a long, with L behind it, up to 9223372036854775807, "
     ++ codes "and a decimal has at most 30 digits after its point and at most 10^37 without its point")
 expression_help (expressions.Deep at) = Some (codes "split it into several statements")
 expression_help _ = None

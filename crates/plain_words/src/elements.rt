@@ -67,13 +67,16 @@ fn find_attribute(plan: TextFile<'_>, at: usize, told: &mut String) -> Result<Fo
     ensures { IfOk result (λ found. place_of found ≡ in_plan (Some at)) }
 {
     let text = text_from(plan.bytes, at);
-    write_attribute_fault(told, text)?;
+    let help = write_attribute_fault(told, text)?;
     write_line(told, text)?;
+    let tag = Found::in_plan(Some(at));
+    if let Some(help) = help {
+        return Ok(tag.with_help(help));
+    }
     let element = element_at(text);
-    let found = Found::in_plan(Some(at)).with_help(needed_attributes(element));
     Ok(Found {
         also: name_form(element),
-        ..found
+        ..tag.with_help(needed_attributes(element))
     })
 }
 

@@ -15,7 +15,7 @@ use crate::tokens::token_from;
 use expr_tokens::{Keyword, Sign, Token};
 use pap_expr::{ExprFault, parse_constant};
 use pap_plan::Spot;
-use pap_tree::Name;
+use pap_tree::{Binary, Name};
 use std::alloc::{AllocError, Global};
 
 /// Where the text of an expression is refused; the word or sign there and its statement or literal are appended.
@@ -122,6 +122,9 @@ fn syntax_help(token: Option<&Token>) -> &'static str {
         Some(Token::Mark(Sign::Equals)) => {
             "a = may stand once, behind the target of an EVAL; a comparison is written =="
         }
+        Some(Token::Operator(Binary::Same)) => {
+            "a == compares two values; in an EVAL a single = stands behind the target"
+        }
         Some(_) => SEE_BEFORE,
     }
 }
@@ -146,8 +149,16 @@ fn profile_help(token: Option<&Token>) -> &'static str {
         Some(Token::Keyword(Keyword::BigDecimal | Keyword::RoundingMode)) => {
             "divide lacks its scale: write it before the rounding mode, as in A.divide(B, 2, BigDecimal.ROUND_DOWN)"
         }
+        Some(Token::Name(name)) if is_whole_part(name) => {
+            "the whole part of a BigDecimal A is A.setScale(0, BigDecimal.ROUND_DOWN), and needs no BigDecimal.valueOf(..) round it"
+        }
         _ => {
             "there are add, subtract, multiply, divide, setScale, compareTo, min, max, negate and abs, and of BigDecimal valueOf, ZERO, ONE, TEN and the modes ROUND_.."
         }
     }
+}
+
+/// Whether a name is that of a call of Java's that gives the whole part of a BigDecimal.
+fn is_whole_part(name: &Name) -> bool {
+    matches!(name.bytes(), b"longValue" | b"intValue" | b"toBigInteger")
 }

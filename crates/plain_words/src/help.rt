@@ -61,7 +61,7 @@ pub(crate) fn expression_help(fault: &ExprFault) -> Option<&'static str>
             "write the number in quotation marks, as in new BigDecimal(\"0.4\"), or BigDecimal.valueOf(0.4)",
         ),
         ExprFault::Number { .. } => Some(
-            "an int goes up to 2147483647, a long, with L behind it, up to 9223372036854775807, and a decimal has at most 30 digits after its point and at most 10^37 without its point",
+            "a scale goes up to 30, an int up to 2147483647, a long, with L behind it, up to 9223372036854775807, and a decimal has at most 30 digits after its point and at most 10^37 without its point",
         ),
         ExprFault::Deep { .. } => Some("split it into several statements"),
         _ => None,

@@ -75,7 +75,7 @@ fn write_spelling(
     let stretch = read.nodes.get(number as usize);
     Ok(Some(Node {
         at: stretch.map(|bytes| bytes.first).unwrap_or(0),
-        takes: taken_kinds(node),
+        takes: taken_here(source, read.role, is_part, node),
         also: if is_part {
             ""
         } else {
@@ -138,6 +138,31 @@ fn target_words(kind: Kind) -> &'static str {
             "; and the target is a double, which takes a literal of at most three digits after the point"
         }
         Kind::Table => "; and the target is a table",
+    }
+}
+
+/// Which operands a node takes, or what it is, where that is what doesn't go together.
+fn taken_here(source: Source<'_>, role: Role, is_part: bool, node: &Expr) -> &'static str {
+    match (node, role) {
+        (Expr::Var(name), _) => match declaration_of(source, name) {
+            Some(site) => own_words(site.declared.kind),
+            None => taken_kinds(node),
+        },
+        (Expr::Call(Call::CompareTo, _, _), Role::Test) if !is_part => {
+            "compareTo takes two values of BigDecimal and gives -1, 0 or 1, which isn't a test yet: compare it with 0, as in A.compareTo(B) > 0"
+        }
+        _ => taken_kinds(node),
+    }
+}
+
+/// Of which type a name is.
+fn own_words(kind: Kind) -> &'static str {
+    match kind {
+        Kind::Int => "it is an int",
+        Kind::Long => "it is a long",
+        Kind::Big => "it is a BigDecimal",
+        Kind::Factor => "it is a double, which stands within BigDecimal.valueOf(..) alone",
+        Kind::Table => "it is a table, of which an item is taken as T[I]",
     }
 }
 

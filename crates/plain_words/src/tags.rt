@@ -14,6 +14,8 @@ use std::collections::BTreeSet;
 pub(crate) struct TagStop<'a> {
     /// The attribute in whose value it stops. `None` where it stops outside of values.
     pub attribute: Option<&'a [u8]>,
+    /// Whether that value began in an earlier line.
+    pub is_broken: bool,
     /// What stands there, up to the end of the file.
     pub left: &'a [u8],
 }
@@ -29,6 +31,7 @@ pub(crate) fn tag_stop(text: &[u8]) -> TagStop<'_> {
             _ => {
                 return TagStop {
                     attribute: Some(front.name),
+                    is_broken: first_line(front.text).len() + value.len() < front.text.len(),
                     left: value,
                 };
             }
@@ -36,6 +39,7 @@ pub(crate) fn tag_stop(text: &[u8]) -> TagStop<'_> {
     }
     TagStop {
         attribute: None,
+        is_broken: false,
         left,
     }
 }
@@ -61,6 +65,9 @@ impl TagStop<'_> {
         out.push_str("the value of the attribute ")?;
         write_quoted(out, attribute, 0)?;
         match self.left.first() {
+            Some(b'<') if self.is_broken => out.push_str(
+                " has no closing quotation mark in its line",
+            )?,
             Some(b'<') => out.push_str(" has a < that isn't escaped")?,
             Some(_) => out.push_str(" has a & that begins no escape")?,
             None => out.push_str(" has no closing quotation mark")?,
@@ -71,6 +78,9 @@ impl TagStop<'_> {
     /// What helps there.
     pub(crate) fn help(self) -> &'static str {
         match (self.attribute, self.left.first()) {
+            (Some(_), Some(b'<')) if self.is_broken => {
+                "close the value with the quotation mark that opens it; in a value that goes over several lines a < is written &lt;"
+            }
             (Some(_), Some(b'<')) => "write &lt; for a < in a value",
             (Some(_), Some(_)) => {
                 "write &amp; for a & in a value; the escapes are &lt; &gt; &amp; &quot; &apos; and &#N; with N from 1 to 127"
@@ -103,6 +113,7 @@ pub(crate) fn first_line(text: &[u8]) -> &[u8] {
 }
 
 /// What is wrong with the attributes of a tag.
+#[derive(Clone, Copy)]
 enum AttributeFault<'a> {
     /// An attribute of this name stands twice.
     Twice(&'a [u8]),
@@ -116,34 +127,57 @@ enum AttributeFault<'a> {
     Long(&'a [u8]),
 }
 
-/// Appends what is wrong with the attributes of the tag with which a text begins, one of which isn't as its element needs it.
-pub(crate) fn write_attribute_fault(out: &mut String, text: &[u8]) -> Result<(), AllocError> {
+/// Appends what is wrong with the attributes of the tag with which a text begins, one of which isn't as its element needs it. Gives
+/// what helps, where that isn't what the element needs.
+pub(crate) fn write_attribute_fault(
+    out: &mut String,
+    text: &[u8],
+) -> Result<Option<&'static str>, AllocError> {
     let alloc = *out.allocator();
     let Some((tag, _)) = read_tag(alloc, text)? else {
-        return out.push_str("an attribute isn't as its element needs it");
+        out.push_str("an attribute isn't as its element needs it")?;
+        return Ok(None);
     };
     let element = Element::named(tag.name);
-    match attribute_fault(alloc, element, &tag.attributes)? {
-        AttributeFault::Twice(name) => {
-            out.push_str("the tag has the attribute ")?;
-            write_quoted(out, name, 0)?;
-            out.push_str(" twice")
+    let fault = attribute_fault(alloc, element, &tag.attributes)?;
+    fault.write(out)?;
+    Ok(fault.help())
+}
+
+impl AttributeFault<'_> {
+    /// Appends what is wrong.
+    fn write(&self, out: &mut String) -> Result<(), AllocError> {
+        match self {
+            AttributeFault::Twice(name) => {
+                out.push_str("the tag has the attribute ")?;
+                write_quoted(out, name, 0)?;
+                out.push_str(" twice")
+            }
+            AttributeFault::Lacking(word) => write!(out, "the tag lacks the attribute `{word}`"),
+            AttributeFault::NotAName(word, value) => {
+                write!(out, "the attribute `{word}` is ")?;
+                write_quoted(out, value, 0)?;
+                out.push_str(", which isn't a name")
+            }
+            AttributeFault::NotAType(value) => {
+                out.push_str("the attribute `type` is ")?;
+                write_quoted(out, value, 0)?;
+                out.push_str(", which isn't a type that this element has")
+            }
+            AttributeFault::Long(name) => {
+                out.push_str("the value of the attribute ")?;
+                write_quoted(out, name, 0)?;
+                out.push_str(" has more than 8192 bytes")
+            }
         }
-        AttributeFault::Lacking(word) => write!(out, "the tag lacks the attribute `{word}`"),
-        AttributeFault::NotAName(word, value) => {
-            write!(out, "the attribute `{word}` is ")?;
-            write_quoted(out, value, 0)?;
-            out.push_str(", which isn't a name")
-        }
-        AttributeFault::NotAType(value) => {
-            out.push_str("the attribute `type` is ")?;
-            write_quoted(out, value, 0)?;
-            out.push_str(", which isn't a type that this element has")
-        }
-        AttributeFault::Long(name) => {
-            out.push_str("the value of the attribute ")?;
-            write_quoted(out, name, 0)?;
-            out.push_str(" has more than 8192 bytes")
+    }
+
+    /// What helps, where that isn't what the element needs.
+    fn help(&self) -> Option<&'static str> {
+        match self {
+            AttributeFault::Twice(_) => Some("leave one of the two out"),
+            AttributeFault::Long(_) => Some("split it into several statements or constants"),
+            _ => None,
         }
     }
 }
