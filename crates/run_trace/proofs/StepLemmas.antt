@@ -25,7 +25,7 @@ use Rattle.pay_run.specs.declared.outputs.Finished.{Finished}
 use Rattle.pay_run.proofs.Laws.{outputs_are, cost_is}
 
 -- the rest of a list from an item on
-from_item : {A : Type 0} (xs : List A) (i : ℕ) (x : A) → x ≡ get_or xs i x → i < length xs → drop i xs ≡ x ∷ drop (i + 1) xs
+pub from_item : {A : Type 0} (xs : List A) (i : ℕ) (x : A) → x ≡ get_or xs i x → i < length xs → drop i xs ≡ x ∷ drop (i + 1) xs
 from_item xs i x is lt = drop_more xs i x lt ∙ ap (λ y. y ∷ drop (i + 1) xs) (sym is)
 
 -- ---- steps

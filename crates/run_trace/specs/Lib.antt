@@ -1,4 +1,6 @@
 pub mod VariableValues
 pub mod StepLines
 pub mod RunTexts
+pub mod RunPages
+pub mod ShownRuns
 pub mod private

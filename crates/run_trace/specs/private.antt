@@ -1,2 +1,3 @@
 pub mod TellingViews
 pub mod TextViews
+pub mod PageViews

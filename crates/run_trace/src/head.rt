@@ -44,7 +44,7 @@ fn write_input(
 }
 
 /// Whether a value is given, in words.
-fn given_word(given: &Values, name: &Name) -> &'static str
+pub(crate) fn given_word(given: &Values, name: &Name) -> &'static str
     ensures { result.now ≡ given_word given.now name.now }
 {
     match given.find(name) {

@@ -83,14 +83,14 @@ fn write_step(
 }
 
 /// How a test is answered.
-fn answer_words(yes: bool) -> &'static [u8]
+pub(crate) fn answer_words(yes: bool) -> &'static [u8]
     ensures { result.now ≡ answer_words yes }
 {
     if yes { b" -> yes" } else { b" -> no" }
 }
 
 /// Puts the value that a step puts.
-fn follow(telling: Telling<'_>, values: &mut [Dec], step: &TraceStep)
+pub(crate) fn follow(telling: Telling<'_>, values: &mut [Dec], step: &TraceStep)
     ensures { values.new ≡ values_behind (flowchart_of telling.entry.plan.now) values.old step.now }
 {
     if let TraceStep::Set { target, value, .. } = step {

@@ -3,6 +3,7 @@ ghost use Rattle.std.specs.Prelude.{◌≡◌, ◌++◌, ◌||◌, is_some, OnOk
 ghost use Rattle.pap_tree.specs.Flowchart.{flowchart_of};
 ghost use Rattle.run_trace.specs.VariableValues.{variable_value};
 ghost use Rattle.run_trace.specs.StepLines.{method_number, listed_at, source_line, step_place, line_words, place_words, listed_words, told_line, told_operands, operand_text};
+ghost use Rattle.run_trace.specs.RunPages.{listed_reads};
 ghost use Rattle.run_trace.specs.private.TellingViews.{KnowsStatements, place_of_told};
 
 use crate::values::variable_value;
@@ -45,7 +46,7 @@ fn method_number(plan: &Typed, name: &Name) -> Option<usize>
 
 impl<'a> Telling<'a> {
     /// The statement of a place.
-    fn listed(self, method: &Name, statement: u32) -> Option<&'a ListedStatement>
+    pub fn listed(self, method: &Name, statement: u32) -> Option<&'a ListedStatement>
         requires { KnowsStatements self }
         ensures { option_map (λ s. s.now) result
             ≡ listed_at (flowchart_of self.entry.plan.now) (step_place method.now statement) }
@@ -56,7 +57,7 @@ impl<'a> Telling<'a> {
     }
 
     /// The words for the line of the file on which a statement begins, where it is known.
-    fn line_words(self, method: &Name, statement: u32) -> Result<String, AllocError>
+    pub fn line_words(self, method: &Name, statement: u32) -> Result<String, AllocError>
         ensures { IfOk result (λ words. string_bytes words ≡ line_words
             (source_line (flowchart_of self.entry.plan.now) self.entry.lines.now
             (step_place method.now statement))) }
@@ -141,6 +142,24 @@ impl<'a> Telling<'a> {
         out.extend_from_slice(listed.text())?;
         out.extend_from_slice(behind)?;
         self.write_operands(out, values, listed.reads())
+    }
+
+    /// The values of the variables that a statement reads, in round brackets.
+    pub fn operands(
+        self,
+        values: &[Dec],
+        listed: Option<&ListedStatement>,
+    ) -> Result<Vec<u8>, AllocError>
+        ensures { IfOk result (λ operands. operands.items ≡ told_operands
+            (flowchart_of self.entry.plan.now) values.now
+            (listed_reads (option_map (λ s. s.now) listed.entry))) }
+    {
+        let mut operands = Vec::new(self.alloc);
+        match listed {
+            Some(listed) => self.write_operands(&mut operands, values, listed.reads())?,
+            None => {}
+        }
+        Ok(operands)
     }
 
     /// Appends the values of the variables among some names, in round brackets.

@@ -63,7 +63,7 @@ fn write_head(
 }
 
 /// The run of a plan, with a counter of its own.
-fn finish<L: Ledger>(
+pub(crate) fn finish<L: Ledger>(
     alloc: Global,
     plan: &Plan,
     inputs: &[Dec],
