@@ -73,8 +73,9 @@ class Drawing:
             self.symbols.append(Symbol("test", x, middle - half, x + flat + 24, middle + half))
 
     def take_text(self, text):
-        if text.get("class") in ("y", "e"):
-            away = STEP_TO_WORD if text.get("class") == "y" else -STEP_TO_WORD
+        kind = (text.get("class") or " ").split(" ")[0]
+        if kind in ("y", "e"):
+            away = STEP_TO_WORD if kind == "y" else -STEP_TO_WORD
             self.words.setdefault(int(text.get("y")), []).append((int(text.get("x")) - away, text.text))
 
     def take_lines(self, data):

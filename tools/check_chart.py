@@ -9,7 +9,7 @@ of its declaration (`chart_table.py`); each statement and each comment is there 
 way of the nearest test it stands, and the characters of its lines; each link leads to a place of the page, each id stands once, and the drawings are well-formed XML; there
 is no script, and nothing that is fetched; there is one verdict, and no element, attribute or comment that could hide it; what the
 verdict of a refused plan links to is marked, and of another nothing is. Pages that are changed so that a word, a line, a caption or
-the verdict is wrong have to be refused. Of a range file that is begun for a plan of random inputs: the plan is accepted with it, and
+the verdict is wrong have to be refused. The page of a run says what the text of the run does (`chart_run.py`). Of a range file that is begun for a plan of random inputs: the plan is accepted with it, and
 the page shows the range of each name."""
 import os
 import random
@@ -19,6 +19,7 @@ import sys
 import tempfile
 import xml.etree.ElementTree as ET
 
+import chart_run
 import chart_table
 import chart_walk
 
@@ -35,9 +36,9 @@ CHANGED_PLAN = b"""<PAP><VARIABLES><INPUTS><INPUT name="x" type="int"/></INPUTS>
 </ELSE></IF></ELSE></IF></METHOD></METHODS></PAP>"""
 
 VERDICTS = ("<b>Accepted.</b>", "<b>In order</b>", "<b>Refused.</b>")
-ELEMENTS = set("""a b body br code div g h1 h2 h3 head header html i li main meta nav p path rect section small span style svg table
-tbody td text th thead title tr tspan ul""".split())
-ATTRIBUTES = set("""aria-hidden aria-label aria-labelledby charset class colspan content d height href id lang name role rx scope
+ELEMENTS = set("""a b body br caption code div em g h1 h2 h3 head header html i li main meta nav ol p path rect section small span strong
+style svg table tbody td text th thead title tr tspan ul""".split())
+ATTRIBUTES = set("""aria-hidden aria-label aria-labelledby charset class colspan content d height href id lang name role rx scope start
 viewBox width x y""".split())
 
 # Each change of the cells of its page makes a row wrong.
@@ -200,12 +201,12 @@ class Part:
             self.notes.append((right - 6, top, right, top + height))
 
     def take_g(self, group):
-        lines = [text for text in group.iter("text") if text.get("class") != "p"]
+        lines = [text for text in group.iter("text") if text.get("class") not in ("p", "v")]
         caption = re.sub(r"^\w+:\d+(?:, where \w+:\d+ (?:holds|does not hold))?: ", "", group.get("aria-label"))
         self.captions.append((caption, "".join("".join(line.itertext()) for line in lines)))
 
     def take_text(self, text):
-        if text.get("class") in ("y", "e"):
+        if (text.get("class") or "").split(" ")[0] in ("y", "e"):
             x, y = number(text, "x"), number(text, "y")
             self.words.append((x, y - 10, x, y + 3))
 
@@ -403,9 +404,13 @@ def main():
                 failed += 1
                 print("case %d: %s" % (case, "; ".join(faults[:3])))
         refused, changed = check_changed_pages(binary, folder)
+    run_faults, runs, run_refused, run_changed = chart_run.check_runs(binary, max(2, count // 6), count)
+    for fault in run_faults[:10]:
+        print(fault)
     print("%d pages, %d with faults, %d lines followed, %d parts of cut drawings, %d of %d changed pages refused"
           % (count, failed, lines, parts, refused, changed))
-    sys.exit(1 if failed or count == 0 or refused < changed else 0)
+    print("%d pages of runs, %d faults, %d of %d changed pages refused" % (runs, len(run_faults), run_refused, run_changed))
+    sys.exit(1 if failed or count == 0 or refused < changed or run_faults or runs == 0 or run_refused < run_changed else 0)
 
 
 if __name__ == "__main__":

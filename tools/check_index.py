@@ -11,9 +11,10 @@ import sys
 
 ANSWERS = ["plan_answers", "script_steps", "script_run", "report_csv", "open_runs", "pap_cli", "saved_items", "book_file", "what_if",
            "run_trace", "flowchart_comparison", "comparison_page", "author_cli"]
-# What these files say is what a program takes, or the files and the script of a sample, and not what is printed.
+# What these files say is what a program takes, the files and the script of a sample, or the markup of a page, and not a printed line.
 TAKEN = [f"crates/{file}.antt" for file in
-         ["pap_cli/specs/Words", "author_cli/specs/Words", "script_run/specs/SampleFiles", "script_run/specs/Samples"]]
+         ["pap_cli/specs/Words", "author_cli/specs/Words", "script_run/specs/SampleFiles", "script_run/specs/Samples",
+          "run_trace/specs/RunPages", "author_cli/specs/Drawn"]]
 PRINTED = re.compile(r'codes "([^"]*)"')
 
 

@@ -22,8 +22,9 @@ use Rattle.flowchart_methods.specs.declared.site.Site.{Site}
 use Rattle.flowchart_page.specs.Findings.{Finding, accepted, in_order, refused, IsFound}
 use Rattle.flowchart_page.specs.Runs.{RunParts}
 use Rattle.flowchart_page.specs.Pages.{AreLimits, IsPlanTable, AreTreeTexts, ArePlanTexts, Says, Shows, IsRunPage, IsPage}
-use Rattle.author_cli.specs.Words.{chart, chart_within, ranges, compared, traced}
+use Rattle.author_cli.specs.Words.{chart, chart_within, ranges, compared, traced, drawn}
 use Rattle.author_cli.specs.Compared.{IsUnreadable, IsCompared}
+use Rattle.author_cli.specs.Drawn.{IsDrawnRun, IsDrawnBlocked, IsDrawnRefused, IsDrawn}
 use Rattle.author_cli.specs.Traced.{IsToldRun, IsBlockedRun, IsRefusedRun, IsTraced}
 use Rattle.payroll_records.specs.declared.values.NamedValue.{NamedValue}
 use Rattle.author_cli.specs.private.TwoFronts.{AreTwoFronts}
@@ -322,6 +323,37 @@ module _ (n m : ℕ) (more_plan : 1048576 < n) (more_limits : 262144 < m) where
   traced_front values plan limits text reason (inr (inl h)) = inr (inl (blocked_front values plan limits text reason h))
   traced_front values plan limits text reason (inr (inr h)) = inr (inr (refused_run_front plan limits text reason h))
 
+  -- ---- the page of a run
+
+  drawn_run_front : (values : List NamedValue) (plan limits text : List ℕ) (reason : Option (List ℕ))
+      → IsDrawnRun values (take n plan) (take m limits) text reason → IsDrawnRun values plan limits text reason
+  drawn_run_front values plan limits text reason h =
+      let w = accepted_whole n m more_plan more_limits plan limits h.meaning h.accepted in
+      subst (λ l. IsDrawnRun values plan l text reason) w.1
+      (subst (λ p. IsDrawnRun values p (take m limits) text reason) w.0 h)
+
+  drawn_blocked_front : (values : List NamedValue) (plan limits : NamedText) (text : List ℕ) (reason : Option (List ℕ))
+      → IsDrawnBlocked values (front n plan) (front m limits) text reason → IsDrawnBlocked values plan limits text reason
+  drawn_blocked_front values plan limits text reason h =
+      let w = accepted_whole n m more_plan more_limits plan.bytes limits.bytes h.meaning h.accepted in
+      subst (λ l. IsDrawnBlocked values plan (record { name = limits.name; bytes = l }) text reason) w.1
+      (subst (λ p. IsDrawnBlocked values (record { name = plan.name; bytes = p }) (front m limits) text reason) w.0 h)
+
+  drawn_refused_front : (plan limits : NamedText) (text : List ℕ) (reason : Option (List ℕ))
+      → IsDrawnRefused (front n plan) (front m limits) text reason → IsDrawnRefused plan limits text reason
+  drawn_refused_front plan limits text reason h = record {
+    words = h.words;
+    said = h.said;
+    tells = tells_front plan limits h.words h.tells;
+    page = page_front None plan.bytes limits.bytes (Some h.words) text h.page;
+  }
+
+  drawn_front : (values : List NamedValue) (plan limits : NamedText) (text : List ℕ) (reason : Option (List ℕ))
+      → IsDrawn values (front n plan) (front m limits) text reason → IsDrawn values plan limits text reason
+  drawn_front values plan limits text reason (inl h) = inl (drawn_run_front values plan.bytes limits.bytes text reason h)
+  drawn_front values plan limits text reason (inr (inl h)) = inr (inl (drawn_blocked_front values plan limits text reason h))
+  drawn_front values plan limits text reason (inr (inr h)) = inr (inr (drawn_refused_front plan limits text reason h))
+
 -- ---- of files that are there
 
 -- what two calls read of files that tell this; what the files tell behind each call says what they told before it
@@ -407,4 +439,21 @@ traced_of files values plan limits bytes bytes' a read h =
           (subst (λ b. IsTraced values (file_of plan b) (file_of limits (take 262145 read.limits_bytes)) a.text a.reason)
           read.plan_read
           (subst (λ b. IsTraced values (file_of plan bytes) (file_of limits b) a.text a.reason) read.limits_read h));
+    }
+
+pub drawn_of : (files : FileMap) (values : List NamedValue) (plan limits bytes bytes' : List ℕ) (a : Answer)
+    → AreFronts files plan limits bytes bytes'
+    → IsDrawn values (file_of plan bytes) (file_of limits bytes') a.text a.reason
+    → Answers (drawn plan limits values) files a
+drawn_of files values plan limits bytes bytes' a read h =
+    record {
+      plan_bytes = read.plan_bytes;
+      limits_bytes = read.limits_bytes;
+      plan_there = read.plan_there;
+      limits_there = read.limits_there;
+      is = drawn_front 1048577 262145 (omega arith) (omega arith) values
+          (file_of plan read.plan_bytes) (file_of limits read.limits_bytes) a.text a.reason
+          (subst (λ b. IsDrawn values (file_of plan b) (file_of limits (take 262145 read.limits_bytes)) a.text a.reason)
+          read.plan_read
+          (subst (λ b. IsDrawn values (file_of plan bytes) (file_of limits b) a.text a.reason) read.limits_read h));
     }

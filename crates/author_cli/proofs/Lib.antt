@@ -6,3 +6,4 @@ mod FrontLemmas
 mod LeavesLemmas
 mod DraftLemmas
 mod TracedLemmas
+mod DrawnLemmas

@@ -61,7 +61,7 @@ waits_for_none p values state found day is are e = never_waits p values day (sym
 -- ---- a run
 
 -- what the values fill is filled of both files
-filled_of : (values given : List NamedValue) (plan limits : List ℕ) (p : Seen) (found result : Filled)
+pub filled_of : (values given : List NamedValue) (plan limits : List ℕ) (p : Seen) (found result : Filled)
     → IsAcceptedAs plan limits p → given ≡ values → found ≡ result → found ≡ filled (accepted p) given []
     → filled_alone values plan limits (meaning p) ≡ result
 filled_of values given plan limits p found result h same is are =

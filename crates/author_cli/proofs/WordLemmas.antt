@@ -1,5 +1,5 @@
 -- The words of the program, and the form that they have.
-use Rattle.std.proofs.Common.{◌≡◌, ℕ, suc, ◌+◌, ◌-◌, ◌<◌, ◌≤◌, List, [], ◌∷◌, ◌++◌, length, take, drop, get_or, sym, ap, ◌∙◌, subst, arith, add-one}
+use Rattle.std.proofs.Common.{◌≡◌, ℕ, suc, ◌+◌, ◌-◌, ◌<◌, ◌≤◌, List, [], ◌∷◌, ◌++◌, length, take, drop, get_or, refl, sym, ap, ◌∙◌, subst, arith, add-one}
 use Rattle.std.specs.Prelude.{codes, String, string_bytes}
 use Rattle.std.specs.declared.alloc.Global.{Global}
 use Rattle.std.proofs.lemmas.List.{length-map, take_all, take_more, take-append-drop, map-append}
@@ -7,7 +7,7 @@ use Rattle.std.proofs.Math.Seq.{drop-cons}
 use Rattle.payroll_records.specs.ValueWords.{AreValueWords}
 use Rattle.payroll_records.specs.declared.values.NamedValue.{NamedValue}
 use Rattle.payroll_records.proofs.Laws.{values_once}
-use Rattle.author_cli.specs.Words.{texts, Form, chart, chart_within, ranges, compared, traced, HasForm, IsBad}
+use Rattle.author_cli.specs.Words.{texts, Form, chart, chart_within, ranges, compared, traced, drawn, HasForm, IsBad}
 use Rattle.author_cli.specs.private.WordViews.{text_words}
 
 two_three : (a b c d e : List ℕ) → a ∷ b ∷ [] ≡ c ∷ d ∷ e ∷ [] → ⊥
@@ -21,6 +21,15 @@ three_more a b c d e f g rest h = let l : 3 ≡ suc (suc (suc (suc (length rest)
 
 chart_ranges : codes "chart" ≡ codes "ranges" → ⊥
 chart_ranges e = cc
+
+chart_trace : codes "chart" ≡ codes "trace" → ⊥
+chart_trace e = let c : 99 ≡ 116 = ap (λ w. get_or w 0 0) e in omega (arith, c)
+
+text_trace : codes "text" ≡ codes "trace" → ⊥
+text_trace e = cc
+
+two_rest : (a b c d e : List ℕ) (rest : List (List ℕ)) → a ∷ b ∷ [] ≡ c ∷ d ∷ e ∷ rest → ⊥
+two_rest a b c d e rest h = let l : 2 ≡ suc (suc (suc (length rest))) = ap (λ w. length w) h in omega (arith, l)
 
 compare_trace : codes "compare" ≡ codes "trace" → ⊥
 compare_trace e = cc
@@ -81,6 +90,27 @@ one_form words (traced p l vs) (traced q m us) h k =
     ap (λ w. traced (get_or w 2 []) (get_or w 3 []) vs) same
     ∙ ap (λ v. traced q m v)
     (values_once k.rest vs us (subst (λ r. AreValueWords r vs) (ap (λ w. drop 4 w) same) h.values_are) k.values_are)
+one_form words (chart p) (drawn q l vs) h k = absurd (two_rest _ p _ q l k.rest (sym h ∙ k.words_are))
+one_form words (chart_within p m) (drawn q l vs) h k =
+    absurd (chart_trace (first words _ _ (p ∷ m ∷ []) (q ∷ l ∷ k.rest) h k.words_are))
+one_form words (ranges p) (drawn q l vs) h k = absurd (two_rest _ p _ q l k.rest (sym h ∙ k.words_are))
+one_form words (compared o n) (drawn q l vs) h k =
+    absurd (text_trace (first words _ _ (codes "compare" ∷ o ∷ n ∷ []) (q ∷ l ∷ k.rest) h k.words_are))
+one_form words (traced p m us) (drawn q l vs) h k =
+    absurd (text_trace (first words _ _ (codes "trace" ∷ p ∷ m ∷ h.rest) (q ∷ l ∷ k.rest) h.words_are k.words_are))
+one_form words (drawn q l vs) (chart p) h k = absurd (two_rest _ p _ q l h.rest (sym k ∙ h.words_are))
+one_form words (drawn q l vs) (chart_within p m) h k =
+    absurd (chart_trace (first words _ _ (p ∷ m ∷ []) (q ∷ l ∷ h.rest) k h.words_are))
+one_form words (drawn q l vs) (ranges p) h k = absurd (two_rest _ p _ q l h.rest (sym k ∙ h.words_are))
+one_form words (drawn q l vs) (compared o n) h k =
+    absurd (text_trace (first words _ _ (codes "compare" ∷ o ∷ n ∷ []) (q ∷ l ∷ h.rest) k h.words_are))
+one_form words (drawn q l vs) (traced p m us) h k =
+    absurd (text_trace (first words _ _ (codes "trace" ∷ p ∷ m ∷ k.rest) (q ∷ l ∷ h.rest) k.words_are h.words_are))
+one_form words (drawn p l vs) (drawn q m us) h k =
+    let same = sym h.words_are ∙ k.words_are in
+    ap (λ w. drawn (get_or w 1 []) (get_or w 2 []) vs) same
+    ∙ ap (λ v. drawn q m v)
+    (values_once k.rest vs us (subst (λ r. AreValueWords r vs) (ap (λ w. drop 3 w) same) h.values_are) k.values_are)
 
 -- ---- no form
 
@@ -92,27 +122,32 @@ no_two command plan no_chart no_ranges (chart_within p l) h = two_three _ plan _
 no_two command plan no_chart no_ranges (ranges p) h = no_ranges (ap (λ w. get_or w 0 []) h)
 no_two command plan no_chart no_ranges (compared o n) h = two_more _ plan _ _ o n [] h
 no_two command plan no_chart no_ranges (traced p l vs) h = two_more _ plan _ _ p l h.rest h.words_are
+no_two command plan no_chart no_ranges (drawn p l vs) h = two_rest _ plan _ p l h.rest h.words_are
 
 -- a command and two names
-pub no_three : (command plan limits : List ℕ) → ¬ (command ≡ codes "chart") → IsBad (command ∷ plan ∷ limits ∷ [])
-no_three command plan limits no_chart (chart p) h = two_three _ p _ plan limits (sym h)
-no_three command plan limits no_chart (chart_within p l) h = no_chart (ap (λ w. get_or w 0 []) h)
-no_three command plan limits no_chart (ranges p) h = two_three _ p _ plan limits (sym h)
-no_three command plan limits no_chart (compared o n) h = three_more _ plan limits _ _ o n [] h
-no_three command plan limits no_chart (traced p l vs) h = three_more _ plan limits _ _ p l h.rest h.words_are
+pub no_three : (command plan limits : List ℕ) → ¬ (command ≡ codes "chart") → ¬ (command ≡ codes "trace")
+    → IsBad (command ∷ plan ∷ limits ∷ [])
+no_three command plan limits no_chart no_trace (chart p) h = two_three _ p _ plan limits (sym h)
+no_three command plan limits no_chart no_trace (chart_within p l) h = no_chart (ap (λ w. get_or w 0 []) h)
+no_three command plan limits no_chart no_trace (ranges p) h = two_three _ p _ plan limits (sym h)
+no_three command plan limits no_chart no_trace (compared o n) h = three_more _ plan limits _ _ o n [] h
+no_three command plan limits no_chart no_trace (traced p l vs) h = three_more _ plan limits _ _ p l h.rest h.words_are
+no_three command plan limits no_chart no_trace (drawn p l vs) h = no_trace (ap (λ w. get_or w 0 []) h.words_are)
 
 -- a form, a command, two names and some words
 pub no_more : (form command first second : List ℕ) (rest : List (List ℕ))
     → (form ≡ codes "text" → ¬ (command ≡ codes "compare")) → (form ≡ codes "text" → ¬ (command ≡ codes "trace"))
-    → IsBad (form ∷ command ∷ first ∷ second ∷ rest)
-no_more form command first second rest no_compare no_trace (chart p) h = two_more _ p _ _ first second rest (sym h)
-no_more form command first second rest no_compare no_trace (chart_within p l) h =
+    → ¬ (form ≡ codes "trace") → IsBad (form ∷ command ∷ first ∷ second ∷ rest)
+no_more form command first second rest no_compare no_trace no_drawn (chart p) h = two_more _ p _ _ first second rest (sym h)
+no_more form command first second rest no_compare no_trace no_drawn (chart_within p l) h =
     three_more _ p l _ _ first second rest (sym h)
-no_more form command first second rest no_compare no_trace (ranges p) h = two_more _ p _ _ first second rest (sym h)
-no_more form command first second rest no_compare no_trace (compared o n) h =
+no_more form command first second rest no_compare no_trace no_drawn (ranges p) h = two_more _ p _ _ first second rest (sym h)
+no_more form command first second rest no_compare no_trace no_drawn (compared o n) h =
     no_compare (ap (λ w. get_or w 0 []) h) (ap (λ w. get_or w 1 []) h)
-no_more form command first second rest no_compare no_trace (traced p l vs) h =
+no_more form command first second rest no_compare no_trace no_drawn (traced p l vs) h =
     no_trace (ap (λ w. get_or w 0 []) h.words_are) (ap (λ w. get_or w 1 []) h.words_are)
+no_more form command first second rest no_compare no_trace no_drawn (drawn p l vs) h =
+    no_drawn (ap (λ w. get_or w 0 []) h.words_are)
 
 -- `text compare` and more than two names
 pub no_compared : (old new : List ℕ) (rest : List (List ℕ)) → ¬ (length rest ≡ 0)
@@ -122,6 +157,7 @@ no_compared old new rest more (chart_within p l) h = three_more _ p l _ _ old ne
 no_compared old new rest more (ranges p) h = two_more _ p _ _ old new rest (sym h)
 no_compared old new rest more (compared o n) h = more (ap (λ w. length (drop 4 w)) h)
 no_compared old new rest more (traced p l vs) h = compare_trace (ap (λ w. get_or w 1 []) h.words_are)
+no_compared old new rest more (drawn p l vs) h = text_trace (ap (λ w. get_or w 0 []) h.words_are)
 
 -- `text trace` and words that give no values
 pub no_traced : (plan limits : List ℕ) (rest : List (List ℕ)) → ((values : List NamedValue) → ¬ (AreValueWords rest values))
@@ -132,18 +168,30 @@ no_traced plan limits rest none (ranges p) h = two_more _ p _ _ plan limits rest
 no_traced plan limits rest none (compared o n) h = compare_trace (sym (ap (λ w. get_or w 1 []) h))
 no_traced plan limits rest none (traced p l vs) h =
     none vs (subst (λ r. AreValueWords r vs) (sym (ap (λ w. drop 4 w) h.words_are)) h.values_are)
+no_traced plan limits rest none (drawn p l vs) h = text_trace (ap (λ w. get_or w 0 []) h.words_are)
+
+-- `trace` and words that give no values
+pub no_drawn : (plan limits : List ℕ) (rest : List (List ℕ)) → ((values : List NamedValue) → ¬ (AreValueWords rest values))
+    → IsBad (codes "trace" ∷ plan ∷ limits ∷ rest)
+no_drawn plan limits rest none (chart p) h = two_rest _ p _ plan limits rest (sym h)
+no_drawn plan limits rest none (chart_within p l) h = chart_trace (sym (ap (λ w. get_or w 0 []) h))
+no_drawn plan limits rest none (ranges p) h = two_rest _ p _ plan limits rest (sym h)
+no_drawn plan limits rest none (compared o n) h = text_trace (sym (ap (λ w. get_or w 0 []) h))
+no_drawn plan limits rest none (traced p l vs) h = text_trace (sym (ap (λ w. get_or w 0 []) h.words_are))
+no_drawn plan limits rest none (drawn p l vs) h =
+    none vs (subst (λ r. AreValueWords r vs) (sym (ap (λ w. drop 3 w) h.words_are)) h.values_are)
 
 as_many : (words : List (String Global)) (list : List (List ℕ)) → texts words ≡ list → length words ≡ length list
 as_many words list e = sym (length-map words (λ w. string_bytes w)) ∙ ap (λ w. length w) e
 
--- neither two words nor three nor more
-pub no_other : (words : List (String Global)) → ¬ (length words ≡ 2) → ¬ (length words ≡ 3) → length words < 4
-    → IsBad (texts words)
-no_other words two three few (chart p) h = two (as_many words _ h)
-no_other words two three few (chart_within p l) h = three (as_many words _ h)
-no_other words two three few (ranges p) h = two (as_many words _ h)
-no_other words two three few (compared o n) h = let l = as_many words _ h in omega (arith, l, few)
-no_other words two three few (traced p l vs) h = let l = as_many words _ h.words_are in omega (arith, l, few)
+-- neither two words nor more
+pub no_other : (words : List (String Global)) → ¬ (length words ≡ 2) → length words < 3 → IsBad (texts words)
+no_other words two few (chart p) h = two (as_many words _ h)
+no_other words two few (chart_within p l) h = let l = as_many words _ h in omega (arith, l, few)
+no_other words two few (ranges p) h = two (as_many words _ h)
+no_other words two few (compared o n) h = let l = as_many words _ h in omega (arith, l, few)
+no_other words two few (traced p l vs) h = let l = as_many words _ h.words_are in omega (arith, l, few)
+no_other words two few (drawn p l vs) h = let l = as_many words _ h.words_are in omega (arith, l, few)
 
 -- ---- all words
 
@@ -157,36 +205,34 @@ two_texts (x ∷ y ∷ []) w v a b least below is is' same same' =
     ∙ ap (λ t. string_bytes x ∷ t ∷ []) (same' ∙ ap (λ z. string_bytes z) is')
 two_texts (x ∷ y ∷ z ∷ words) w v a b least below is is' same same' = absurd (omega arith)
 
-pub three_texts : (words : List (String Global)) (w v u : String Global) (a b c : List ℕ) → 3 ≤ length words
-    → length words < 4
-    → w ≡ get_or words 0 w → v ≡ get_or words 1 v → u ≡ get_or words 2 u → a ≡ string_bytes w → b ≡ string_bytes v
-    → c ≡ string_bytes u
-    → a ∷ b ∷ c ∷ [] ≡ texts words
-three_texts [] w v u a b c least below is is' is'' same same' same'' = absurd (omega arith)
-three_texts (x ∷ []) w v u a b c least below is is' is'' same same' same'' = absurd (omega arith)
-three_texts (x ∷ y ∷ []) w v u a b c least below is is' is'' same same' same'' = absurd (omega arith)
-three_texts (x ∷ y ∷ z ∷ []) w v u a b c least below is is' is'' same same' same'' =
-    ap (λ t. t ∷ b ∷ c ∷ []) (same ∙ ap (λ z. string_bytes z) is)
-    ∙ ap (λ t. string_bytes x ∷ t ∷ c ∷ []) (same' ∙ ap (λ z. string_bytes z) is')
-    ∙ ap (λ t. string_bytes x ∷ string_bytes y ∷ t ∷ []) (same'' ∙ ap (λ z. string_bytes z) is'')
-three_texts (x ∷ y ∷ z ∷ k ∷ words) w v u a b c least below is is' is'' same same' same'' = absurd (omega arith)
+pub three_texts : (words rest : List (String Global)) (w v u : String Global) (a b c : List ℕ) → 3 ≤ length words
+    → w ≡ get_or words 0 w → v ≡ get_or words 1 v → u ≡ get_or words 2 u → a ≡ string_bytes w
+    → b ≡ string_bytes v → c ≡ string_bytes u → rest ≡ take (length words - 3) (drop 3 words)
+    → a ∷ b ∷ c ∷ texts rest ≡ texts words
+three_texts [] rest w v u a b c least iw iv iu sw sv su sr = absurd (omega arith)
+three_texts (x ∷ []) rest w v u a b c least iw iv iu sw sv su sr = absurd (omega arith)
+three_texts (x ∷ y ∷ []) rest w v u a b c least iw iv iu sw sv su sr = absurd (omega arith)
+three_texts (x ∷ y ∷ z ∷ more) rest w v u a b c least iw iv iu sw sv su sr =
+    let whole : take (length (x ∷ y ∷ z ∷ more) - 3) more ≡ more =
+    take_all (length (x ∷ y ∷ z ∷ more) - 3) more (omega arith) in
+    ap (λ p. p ∷ b ∷ c ∷ texts rest) (sw ∙ ap (λ q. string_bytes q) iw)
+    ∙ ap (λ p. string_bytes x ∷ p ∷ c ∷ texts rest) (sv ∙ ap (λ q. string_bytes q) iv)
+    ∙ ap (λ p. string_bytes x ∷ string_bytes y ∷ p ∷ texts rest) (su ∙ ap (λ q. string_bytes q) iu)
+    ∙ ap (λ p. string_bytes x ∷ string_bytes y ∷ string_bytes z ∷ texts p) (sr ∙ whole)
 
-pub more_texts : (words rest : List (String Global)) (w v u t : String Global) (a b c d : List ℕ) → 4 ≤ length words
-    → w ≡ get_or words 0 w → v ≡ get_or words 1 v → u ≡ get_or words 2 u → t ≡ get_or words 3 t → a ≡ string_bytes w
-    → b ≡ string_bytes v → c ≡ string_bytes u → d ≡ string_bytes t → rest ≡ take (length words - 4) (drop 4 words)
-    → a ∷ b ∷ c ∷ d ∷ texts rest ≡ texts words
-more_texts [] rest w v u t a b c d least iw iv iu it sw sv su st sr = absurd (omega arith)
-more_texts (x ∷ []) rest w v u t a b c d least iw iv iu it sw sv su st sr = absurd (omega arith)
-more_texts (x ∷ y ∷ []) rest w v u t a b c d least iw iv iu it sw sv su st sr = absurd (omega arith)
-more_texts (x ∷ y ∷ z ∷ []) rest w v u t a b c d least iw iv iu it sw sv su st sr = absurd (omega arith)
-more_texts (x ∷ y ∷ z ∷ k ∷ more) rest w v u t a b c d least iw iv iu it sw sv su st sr =
-    let whole : take (length (x ∷ y ∷ z ∷ k ∷ more) - 4) more ≡ more =
-    take_all (length (x ∷ y ∷ z ∷ k ∷ more) - 4) more (omega arith) in
-    ap (λ p. p ∷ b ∷ c ∷ d ∷ texts rest) (sw ∙ ap (λ q. string_bytes q) iw)
-    ∙ ap (λ p. string_bytes x ∷ p ∷ c ∷ d ∷ texts rest) (sv ∙ ap (λ q. string_bytes q) iv)
-    ∙ ap (λ p. string_bytes x ∷ string_bytes y ∷ p ∷ d ∷ texts rest) (su ∙ ap (λ q. string_bytes q) iu)
-    ∙ ap (λ p. string_bytes x ∷ string_bytes y ∷ string_bytes z ∷ p ∷ texts rest) (st ∙ ap (λ q. string_bytes q) it)
-    ∙ ap (λ p. string_bytes x ∷ string_bytes y ∷ string_bytes z ∷ string_bytes k ∷ texts p) (sr ∙ whole)
+-- one word and those behind it
+pub one_text : (words rest : List (String Global)) (w : String Global) (a : List ℕ) → 1 ≤ length words
+    → w ≡ get_or words 0 w → a ≡ string_bytes w → rest ≡ take (length words - 1) (drop 1 words)
+    → a ∷ texts rest ≡ texts words
+one_text [] rest w a least iw sw sr = absurd (omega arith)
+one_text (x ∷ more) rest w a least iw sw sr =
+    let whole : take (length (x ∷ more) - 1) more ≡ more = take_all (length (x ∷ more) - 1) more (omega arith) in
+    ap (λ p. p ∷ texts rest) (sw ∙ ap (λ q. string_bytes q) iw) ∙ ap (λ p. string_bytes x ∷ texts p) (sr ∙ whole)
+
+-- no word
+pub no_text : (words : List (String Global)) → length words ≡ 0 → texts words ≡ []
+no_text [] none = refl
+no_text (x ∷ words) none = absurd (omega (arith, none))
 
 -- ---- some words of a list
 

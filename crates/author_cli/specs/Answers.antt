@@ -15,9 +15,10 @@ use Rattle.plan_answers.specs.Refusals.{read_detail}
 use Rattle.range_draft.specs.Draft.{IsDraft}
 use Rattle.flowchart_page.specs.Pages.{IsPage}
 use Rattle.flowchart_page.specs.Verdicts.{files_with, IsJudged}
-use Rattle.author_cli.specs.Words.{Form, chart, chart_within, ranges, compared, traced}
+use Rattle.author_cli.specs.Words.{Form, chart, chart_within, ranges, compared, traced, drawn}
 use Rattle.author_cli.specs.Compared.{IsCompared}
 use Rattle.author_cli.specs.Traced.{IsTraced}
+use Rattle.author_cli.specs.Drawn.{IsDrawn}
 
 -- what is written, and why a plan is refused, or that two differ, in words, where that is so
 pub record Answer : Type 0 where
@@ -95,6 +96,14 @@ pub record TracesFiles (values : List NamedValue) (plan limits : List ℕ) (file
   pub limits_there : files limits ≡ Some limits_bytes
   pub is : IsTraced values (file_of plan plan_bytes) (file_of limits limits_bytes) answer.text answer.reason
 
+-- both files are there, and this is the page on the run of the one within the ranges of the other
+pub record DrawsFiles (values : List NamedValue) (plan limits : List ℕ) (files : FileMap) (answer : Answer) : Type 0 where
+  pub plan_bytes : List ℕ
+  pub limits_bytes : List ℕ
+  pub plan_there : files plan ≡ Some plan_bytes
+  pub limits_there : files limits ≡ Some limits_bytes
+  pub is : IsDrawn values (file_of plan plan_bytes) (file_of limits limits_bytes) answer.text answer.reason
+
 -- the answer to words of this form
 abbrev pub Answers : Form → FileMap → Answer → Type 0
 Answers (chart plan) files answer = AnswersFile (λ file page. IsChart file None page) plan files answer
@@ -102,3 +111,4 @@ Answers (chart_within plan limits) files answer = ChartsFiles plan limits files 
 Answers (ranges plan) files answer = AnswersFile IsRanges plan files answer
 Answers (compared old new) files answer = ComparesFiles old new files answer
 Answers (traced plan limits values) files answer = TracesFiles values plan limits files answer
+Answers (drawn plan limits values) files answer = DrawsFiles values plan limits files answer

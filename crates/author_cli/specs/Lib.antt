@@ -2,6 +2,7 @@ pub mod Answers
 pub mod CallClauses
 pub mod Compared
 pub mod Traced
+pub mod Drawn
 pub mod Ends
 pub mod Laws
 pub mod Outside

@@ -20,11 +20,19 @@ pub data Form : Type 0 where
   compared : List ℕ → List ℕ → Form
   -- text trace PLAN LIMITS NAME=VALUE ..
   traced : List ℕ → List ℕ → List NamedValue → Form
+  -- trace PLAN LIMITS NAME=VALUE ..
+  drawn : List ℕ → List ℕ → List NamedValue → Form
 
 -- the words are `text trace`, the names of two files, and value words that give these values
 pub record HasTraceForm (words : List (List ℕ)) (plan limits : List ℕ) (values : List NamedValue) : Type 0 where
   pub rest : List (List ℕ)
   pub words_are : words ≡ codes "text" ∷ codes "trace" ∷ plan ∷ limits ∷ rest
+  pub values_are : AreValueWords rest values
+
+-- the words are `trace`, the names of two files, and value words that give these values
+pub record HasDrawnForm (words : List (List ℕ)) (plan limits : List ℕ) (values : List NamedValue) : Type 0 where
+  pub rest : List (List ℕ)
+  pub words_are : words ≡ codes "trace" ∷ plan ∷ limits ∷ rest
   pub values_are : AreValueWords rest values
 
 -- the words have this form
@@ -34,6 +42,7 @@ HasForm words (chart_within plan limits) = words ≡ codes "chart" ∷ plan ∷ 
 HasForm words (ranges plan) = words ≡ codes "ranges" ∷ plan ∷ []
 HasForm words (compared old new) = words ≡ codes "text" ∷ codes "compare" ∷ old ∷ new ∷ []
 HasForm words (traced plan limits values) = HasTraceForm words plan limits values
+HasForm words (drawn plan limits values) = HasDrawnForm words plan limits values
 
 -- the words have no form
 abbrev pub IsBad : List (List ℕ) → Type 0

@@ -2,3 +2,4 @@ pub mod AnswerViews
 pub mod TwoFronts
 pub mod WordViews
 pub mod TracedViews
+pub mod DrawnViews

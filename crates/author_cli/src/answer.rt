@@ -3,7 +3,7 @@ ghost use Rattle.std.specs.Prelude.{◌≡◌, IfOk, None, option_map};
 ghost use Rattle.outside.specs.Causes.{Caused};
 ghost use Rattle.pap_reader.specs.Elements.{IsFault};
 ghost use Rattle.plain_words.specs.Places.{named_text};
-ghost use Rattle.author_cli.specs.Words.{chart, chart_within, ranges, compared, traced};
+ghost use Rattle.author_cli.specs.Words.{chart, chart_within, ranges, compared, traced, drawn};
 ghost use Rattle.author_cli.specs.private.WordViews.{form_of};
 ghost use Rattle.author_cli.specs.Answers.{IsChart, IsUnread, IsRanges};
 ghost use Rattle.author_cli.specs.private.AnswerViews.{answer_of, Makes};
@@ -11,6 +11,7 @@ ghost use Rattle.author_cli.specs.Outside.{outside_of};
 ghost use Rattle.author_cli.specs.CallClauses.{Leaves};
 
 use crate::compared::{compare_plans, read_two};
+use crate::drawn::draw_trace;
 use crate::stop::Stop;
 use crate::traced::trace_plan;
 use crate::words::Request;
@@ -74,6 +75,11 @@ fn make_answer<F: Files>(
             limits,
             values,
         } => answer_traced(alloc, plan, limits, values, files),
+        Request::Draw {
+            plan,
+            limits,
+            values,
+        } => answer_drawn(alloc, plan, limits, values, files),
     }
 }
 
@@ -178,6 +184,31 @@ fn answer_traced<F: Files>(
         bytes: &limits_bytes,
     };
     Ok(trace_plan(alloc, plan, limits, values)?)
+}
+
+/// The page of a run.
+fn answer_drawn<F: Files>(
+    alloc: Global,
+    plan: &str,
+    limits: &str,
+    values: Values,
+    files: &mut F,
+) -> Result<Answer, FileAnswer>
+    ensures made { Makes (drawn plan.now limits.now values)
+        (F.told files.old) (F.failed files.old) (F.failed files.new) result }
+    ensures same { F.told files.new ≡ F.told files.old }
+    ensures cause { Caused FileAnswer.Failed (F.faults files.old) (F.faults files.new) result }
+{
+    let (plan_bytes, limits_bytes) = read_both(alloc, plan, limits, files)?;
+    let plan = TextFile {
+        name: plan,
+        bytes: &plan_bytes,
+    };
+    let limits = TextFile {
+        name: limits,
+        bytes: &limits_bytes,
+    };
+    Ok(draw_trace(alloc, plan, limits, values)?)
 }
 
 /// The page of a plan's bytes, with those of a range file or without.

@@ -16,11 +16,12 @@ use std::alloc::Global;
 /// Does all that the program does: carries out the words over the files and the sink.
 ///
 /// The forms of the words are `chart PLAN` and `chart PLAN LIMITS`, which write the flowchart of the file PLAN as one
-/// page of HTML, without a range file or with that of the file LIMITS, `ranges PLAN`, which writes a range file to
-/// begin with, `text compare OLD NEW`, which writes what the flowchart of the file NEW changed against that of OLD, and
-/// `text trace PLAN LIMITS NAME=VALUE ..`, which writes each statement that a run on these inputs executes. All other words
-/// are [`Stop::Words`]. `Ok` means that all was written: it has why a plan is refused or a run has no inputs, in plain words
-/// in one line, or that two flowcharts differ, and nothing where none of these is so.
+/// page of HTML, without a range file or with that of the file LIMITS, `trace PLAN LIMITS NAME=VALUE ..`, which writes that
+/// page with the run on these inputs in it, `ranges PLAN`, which writes a range file to begin with, `text compare OLD NEW`,
+/// which writes what the flowchart of the file NEW changed against that of OLD, and `text trace PLAN LIMITS NAME=VALUE ..`,
+/// which writes each statement that a run on these inputs executes. All other words are [`Stop::Words`]. `Ok` means that
+/// all was written: it has why a plan is refused or a run has no inputs, in plain words in one line, or that two flowcharts
+/// differ, and nothing where none of these is so.
 pub fn pap_author<F: Files, W: Sink>(
     alloc: Global,
     words: &[String],

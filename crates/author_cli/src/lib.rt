@@ -4,6 +4,7 @@
 mod answer;
 mod call;
 mod compared;
+mod drawn;
 mod stop;
 mod traced;
 mod words;

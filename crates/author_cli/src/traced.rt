@@ -61,7 +61,7 @@ fn trace_accepted(
 }
 
 /// The record of a run that stands alone: its employee and its day play no part.
-fn record_of(values: Values) -> Record
+pub(crate) fn record_of(values: Values) -> Record
     ensures { result.values ≡ values }
 {
     Record {
@@ -110,7 +110,7 @@ fn answer_blocked(
 }
 
 /// Why a run has no inputs, in the words of its refusal. A run without earlier ones waits for none.
-fn state_detail(alloc: Global, state: &Blocked) -> Result<String, AllocError>
+pub(crate) fn state_detail(alloc: Global, state: &Blocked) -> Result<String, AllocError>
     requires { (day : Date) → state.now ≢ Blocked.Waits day }
     ensures { IfOk result (λ detail. string_bytes detail ≡ state_detail state.now) }
 {

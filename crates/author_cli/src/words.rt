@@ -1,5 +1,5 @@
 //! The words of the command line.
-ghost use Rattle.std.specs.Prelude.{◌∷◌, [], codes, IfOk, MatchOption, List};
+ghost use Rattle.std.specs.Prelude.{◌≡◌, ◌∷◌, [], codes, IfOk, MatchOption, List};
 ghost use Rattle.payroll_records.specs.declared.values.NamedValue.{NamedValue as Value};
 ghost use Rattle.payroll_records.specs.ValueWords.{AreValueWords};
 ghost use Rattle.author_cli.specs.Words.{texts, HasForm, IsBad};
@@ -35,6 +35,12 @@ pub(crate) enum Request<'a> {
         limits: &'a str,
         values: Values,
     },
+    /// `trace PLAN LIMITS NAME=VALUE ..`, with the values.
+    Draw {
+        plan: &'a str,
+        limits: &'a str,
+        values: Values,
+    },
 }
 
 /// What the words ask for. `None` where they have no form.
@@ -44,10 +50,8 @@ pub(crate) fn read_words(alloc: Global, words: &[String]) -> Result<Option<Reque
 {
     match words {
         [command, plan] => Ok(read_two(command.as_str(), plan.as_str())),
-        [command, plan, limits] => Ok(read_three(command.as_str(), plan.as_str(), limits.as_str())),
-        [form, command, first, second, rest @ ..] => read_more(
+        [command, first, second, rest @ ..] => read_files(
             alloc,
-            form.as_str(),
             command.as_str(),
             first.as_str(),
             second.as_str(),
@@ -69,8 +73,67 @@ fn read_two<'a>(command: &str, plan: &'a str) -> Option<Request<'a>>
     }
 }
 
+/// What three words and some more ask for.
+fn read_files<'a>(
+    alloc: Global,
+    command: &str,
+    first: &'a str,
+    second: &'a str,
+    rest: &'a [String],
+) -> Result<Option<Request<'a>>, AllocError>
+    ensures { let words = command.now ∷ first.now ∷ second.now ∷ texts rest.now in
+        IfOk result (λ found. MatchOption found (IsBad words)
+        (λ request. HasForm words (form_of request))) }
+{
+    match command {
+        "trace" => read_drawn(alloc, first, second, rest),
+        _ => read_others(alloc, command, first, second, rest),
+    }
+}
+
+/// What three words and some more ask for, where the first isn't `trace`.
+fn read_others<'a>(
+    alloc: Global,
+    command: &str,
+    first: &'a str,
+    second: &'a str,
+    rest: &'a [String],
+) -> Result<Option<Request<'a>>, AllocError>
+    requires { ¬ (command.now ≡ codes "trace") }
+    ensures { let words = command.now ∷ first.now ∷ second.now ∷ texts rest.now in
+        IfOk result (λ found. MatchOption found (IsBad words)
+        (λ request. HasForm words (form_of request))) }
+{
+    match rest {
+        [] => Ok(read_three(command, first, second)),
+        [third, rest @ ..] => read_more(alloc, command, first, second, third.as_str(), rest),
+    }
+}
+
+/// What `trace`, two names and some words ask for.
+fn read_drawn<'a>(
+    alloc: Global,
+    plan: &'a str,
+    limits: &'a str,
+    rest: &[String],
+) -> Result<Option<Request<'a>>, AllocError>
+    ensures { let words = codes "trace" ∷ plan.now ∷ limits.now ∷ texts rest.now in
+        IfOk result (λ found. MatchOption found (IsBad words)
+        (λ request. HasForm words (form_of request))) }
+{
+    match read_values(alloc, rest)? {
+        Some(values) => Ok(Some(Request::Draw {
+            plan,
+            limits,
+            values,
+        })),
+        None => Ok(None),
+    }
+}
+
 /// What a command and two names ask for.
 fn read_three<'a>(command: &str, plan: &'a str, limits: &'a str) -> Option<Request<'a>>
+    requires { ¬ (command.now ≡ codes "trace") }
     ensures { MatchOption result (IsBad (command.now ∷ plan.now ∷ limits.now ∷ []))
         (λ request. HasForm (command.now ∷ plan.now ∷ limits.now ∷ []) (form_of request)) }
 {
@@ -89,6 +152,7 @@ fn read_more<'a>(
     second: &'a str,
     rest: &[String],
 ) -> Result<Option<Request<'a>>, AllocError>
+    requires { ¬ (form.now ≡ codes "trace") }
     ensures { let words = form.now ∷ command.now ∷ first.now ∷ second.now ∷ texts rest.now in
         IfOk result (λ found. MatchOption found (IsBad words)
         (λ request. HasForm words (form_of request))) }

@@ -11,7 +11,8 @@ use std::process::ExitCode;
 /// What is said where the words ask for nothing.
 const USAGE: &str =
     "usage: pap_author chart PLAN | pap_author chart PLAN LIMITS | pap_author ranges PLAN | \
-    pap_author text compare OLD NEW | pap_author text trace PLAN LIMITS NAME=VALUE ..";
+    pap_author trace PLAN LIMITS NAME=VALUE .. | pap_author text compare OLD NEW | \
+    pap_author text trace PLAN LIMITS NAME=VALUE ..";
 
 /// The answer to `--version`, with the checksum of the prover's rules by which the contracts are proved.
 const VERSION: &str = "pap_author 1.0.0 (rules dac8208d650f15bf)";
@@ -27,6 +28,9 @@ usage:
                                    the outputs; or why it is refused, with the statement, method or name in red
   pap_author ranges PLAN           write a range file to begin with: for each input the widest range that makes sense for its
                                    type, and what to narrow
+  pap_author trace PLAN LIMITS NAME=VALUE ..
+                                   write the page of the flowchart with the run on these inputs: its inputs and outputs, and
+                                   its statements in order, each with a link to it in the drawing
   pap_author text compare OLD NEW  write what the flowchart NEW changed against OLD: declarations with their values, and method
                                    by method the statements; each line begins with = the same, ~ changed, + new or - gone
   pap_author text trace PLAN LIMITS NAME=VALUE ..
@@ -42,8 +46,8 @@ Where the plan is refused, a line on standard error says in plain words what is 
 helps. `chart` writes the page all the same, with the reason in it; that of a file that can't be read as a flowchart has no
 drawing. `ranges` doesn't judge the flowchart: only of a file that can't be read as one the line of its refusal is written,
 in place of the range file. `compare` doesn't judge its flowcharts either: the line of the first file that can't be read as
-one is written in place of the text. `trace` fills inputs that aren't given as `papcalc once` does, and of a refused plan or
-a run without inputs it writes the line that `papcalc once` writes.
+one is written in place of the text. `trace` fills inputs that aren't given as `papcalc once` does. Of a refused plan or a run
+without inputs its page says why, and its text has the line that `papcalc once` writes.
 
 It ends with 0 where all was written, 1 where that is of a refused plan, of a run without inputs or of two flowcharts that
 differ, 2 where the words are none of these, 3 where a file can't be read, 5 where the output can't be written, 6 where memory runs out.";
