@@ -1,0 +1,9 @@
+mod CountLemmas
+mod CursorLemmas
+mod FindingLemmas
+mod IdleLemmas
+mod SetLemmas
+mod StatementLemmas
+mod TagLemmas
+mod TextLemmas
+mod UseLemmas

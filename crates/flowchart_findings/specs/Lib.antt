@@ -1,0 +1,6 @@
+pub mod Findings
+pub mod NeverExecuted
+pub mod Places
+pub mod Texts
+pub mod Uses
+pub mod private

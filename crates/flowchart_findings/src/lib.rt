@@ -1,0 +1,18 @@
+//! What the author of a flowchart may want to change: what no run executes, and what nothing reads or assigns.
+#![tactic(auto)]
+
+mod counts;
+mod cursor;
+mod declarations;
+mod finding;
+mod flowchart;
+mod name_sets;
+mod statements;
+mod tags;
+mod text;
+mod uses;
+mod words;
+
+pub use finding::{DeclarationSite, Finding, Group, StatementSite};
+pub use flowchart::findings;
+pub use text::findings_text;

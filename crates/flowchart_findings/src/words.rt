@@ -1,0 +1,58 @@
+//! The words of findings.
+ghost use Rattle.std.specs.Prelude.{◌≡◌, IfOk, string_bytes};
+ghost use Rattle.flowchart_findings.specs.Texts.{group_word, finding_words};
+
+use crate::finding::{Finding, Group};
+use std::alloc::{AllocError, Global};
+
+/// What a declaration of a group is.
+fn group_word(group: Group) -> &'static str
+    ensures { result.now ≡ group_word group }
+{
+    match group {
+        Group::Input => "input",
+        Group::Output => "output",
+        Group::Internal => "internal name",
+        Group::Constant => "constant",
+    }
+}
+
+/// The word of a finding, and its sentence.
+pub(crate) fn finding_words(alloc: Global, finding: &Finding) -> Result<String, AllocError>
+    ensures { IfOk result (λ words. string_bytes words ≡ finding_words finding.now) }
+{
+    match finding {
+        Finding::Unread(site) => {
+            let group = group_word(site.group);
+            let name = site.name;
+            format!(in alloc; "unread: by the text alone, no expression names the {group} {name}")
+        }
+        Finding::Unassigned(site) => {
+            let group = group_word(site.group);
+            let name = site.name;
+            format!(in alloc;
+                "unassigned: by the text alone, no EVAL assigns the {group} {name}, so it keeps the value that it begins with"
+            )
+        }
+        Finding::DeadMethod { method, .. } => format!(in alloc;
+            "dead-method: by the ranges of the inputs, no run executes the method {method}"
+        ),
+        Finding::DeadStatement(site) => {
+            let method = site.method;
+            format!(in alloc;
+                "dead: by the ranges of the inputs, no run executes this statement of {method}"
+            )
+        }
+        Finding::UnusedValue { target, .. } => format!(in alloc;
+            "unused: by the text alone, no expression names {target}, so the value of this EVAL is never read"
+        ),
+        Finding::NeverTrue { .. } => String::from_str(
+            alloc,
+            "never-true: by the ranges of the inputs, the test of this IF never holds, so no run executes its THEN",
+        ),
+        Finding::NeverFalse { .. } => String::from_str(
+            alloc,
+            "never-false: by the ranges of the inputs, the test of this IF always holds, so no run executes its ELSE",
+        ),
+    }
+}
