@@ -1,3 +1,6 @@
+mod FaultLaws
+mod FindLemmas
+mod FurtherLemmas
 mod LineLemmas
 mod ReasonLemmas
 pub mod Laws

@@ -8,7 +8,6 @@ use Rattle.std.proofs.lemmas.List.Elements.{filter-append}
 use Rattle.std.proofs.Math.Seq.{take-suc}
 use Rattle.scaled_decimal.specs.Decimals.{Decimal}
 use Rattle.limits_file.specs.declared.slots.Slot.{Slot}
-use Rattle.payroll_records.specs.declared.day.Day.{Day}
 use Rattle.payroll_records.specs.declared.values.NamedValue.{NamedValue}
 use Rattle.payroll_records.specs.NamedValues.{name_of}
 use Rattle.carry_bindings.specs.declared.carried.Earlier.{Earlier}

@@ -1,3 +1,5 @@
+pub mod ExpressionFaults
 pub mod FaultLines
+pub mod FurtherFaults
 pub mod RunReasons
 pub mod private

@@ -1,8 +1,12 @@
-//! All reasons why a run has no inputs, and faults that are told line by line.
+//! All reasons why a run has no inputs, all faults of a plan's expressions, and faults that are told line by line.
 #![tactic(auto)]
 
+mod expressions;
 mod fault_lines;
 mod reasons;
+mod refusals;
 
+pub use expressions::{expression_faults, expression_laws};
 pub use fault_lines::{MOST_TOLD, plan_lines, state_lines};
 pub use reasons::{reason_laws, run_reasons};
+pub use refusals::refusal_lines;

@@ -1,4 +1,4 @@
-use Rattle.std.proofs.Common.{◌≡◌, ◌+◌, ◌-◌, [], ◌∷◌, ◌++◌, ◌∙◌, List, length, take, refl, sym, ap, subst, string_bytes, arith}
+use Rattle.std.proofs.Common.{[], ◌∷◌, ◌++◌, ◌∙◌, take, refl, ap, subst, string_bytes, arith}
 use Rattle.plain_words.specs.Places.{files_of}
 use Rattle.diagnostics.specs.FaultLines.{IsPlanLine}
 use Rattle.diagnostics.specs.private.LineViews.{TellsAll}

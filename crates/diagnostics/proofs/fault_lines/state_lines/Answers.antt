@@ -1,4 +1,4 @@
-use Rattle.std.proofs.Common.{◌≡◌, ◌+◌, [], ◌∷◌, ◌++◌, ◌∙◌, refl, take, ap, subst, string_bytes, arith}
+use Rattle.std.proofs.Common.{[], ◌∷◌, ◌++◌, ◌∙◌, refl, take, ap, subst, string_bytes, arith}
 use Rattle.plain_words.specs.Places.{files_of}
 use Rattle.diagnostics.specs.FaultLines.{IsStateLine}
 use Rattle.diagnostics.specs.private.LineViews.{TellsAll}

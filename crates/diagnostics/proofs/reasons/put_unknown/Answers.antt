@@ -1,4 +1,4 @@
-use Rattle.std.proofs.Common.{◌≡◌, [], ◌∷◌, ◌++◌, ◌∙◌, ◌+◌, refl, sym, ap, take, cond, append_assoc, add-one, length, arith}
+use Rattle.std.proofs.Common.{[], ◌∷◌, ◌++◌, ◌∙◌, refl, sym, ap, take, cond, append_assoc, add-one, arith}
 use Rattle.std.specs.Prelude.{not}
 use Rattle.std.proofs.Math.ListN.{length-map}
 use Rattle.payroll_records.specs.NamedValues.{name_of}

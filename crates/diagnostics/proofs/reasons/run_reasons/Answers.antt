@@ -1,4 +1,4 @@
-use Rattle.std.proofs.Common.{◌≡◌, ◌++◌, ◌∙◌, ap}
+use Rattle.std.proofs.Common.{◌++◌, ◌∙◌, ap}
 use Rattle.pay_run.specs.Accepted.{accepted}
 use Rattle.diagnostics.specs.RunReasons.{missing_reasons, outside_reasons, unknown_reasons}
 use Rattle.diagnostics.proofs.ReasonLemmas.{slots_reasons, three_reasons}
