@@ -1,5 +1,5 @@
 -- The reason of a refusal, and the notes that it is put to.
-use Rattle.std.proofs.Common.{◌≡◌, ◌≢◌, ◌∙◌, ℕ, ◌∷◌, ◌++◌, Bool, true, false, List, [], refl, sym, ap, subst, inl, inr, arith}
+use Rattle.std.proofs.Common.{◌≡◌, ◌≢◌, ◌∙◌, ℕ, ◌++◌, Bool, true, false, List, [], refl, sym, ap, subst, inl, inr, arith}
 use Rattle.std.specs.Prelude.{Option, Some, None, IfSome, is_some, Result, Ok, Err, String, string_bytes}
 use Rattle.std.specs.declared.alloc.Global.{Global}
 use Rattle.std.proofs.lemmas.Bool.{false≢true}
@@ -17,7 +17,8 @@ use Rattle.pap_plan.specs.AcceptanceClauses.{IsAcceptedAs}
 use Rattle.pap_plan.specs.Plans.{Seen, meaning}
 use Rattle.pay_run.specs.Accepted.{Accepted, accepted}
 use Rattle.pay_run.specs.Runs.{filled}
-use Rattle.diagnostics.specs.FaultLines.{IsPlanLine, IsStateLine, TellsEach}
+use Rattle.diagnostics.specs.FaultLines.{IsStateLine, TellsEach}
+use Rattle.diagnostics.specs.FurtherFaults.{TellsFaults}
 use Rattle.diagnostics.specs.RunReasons.{named_reason, run_reasons}
 use Rattle.diagnostics.proofs.Laws.{first_named}
 use Rattle.plain_words.specs.Places.{PlanFiles}
@@ -81,9 +82,22 @@ refused_is plan limits (refusals.Bind name) other h = h
 refused_is plan limits (refusals.Range fault) other h = h
 refused_is plan limits refusals.Memory other h = absurd (other refl)
 
+-- a refusal, where memory may have run out
+pub refused_or : (plan limits : List ℕ) (r : PlanRefusal) → IsRefused plan limits r → IsRefusedOrMemory plan limits r
+refused_or plan limits (refusals.Read fault) h = h
+refused_or plan limits (refusals.Expr spot fault) h = h
+refused_or plan limits (refusals.Types fault) h = h
+refused_or plan limits (refusals.Order fault) h = h
+refused_or plan limits (refusals.Limits fault) h = h
+refused_or plan limits (refusals.LimitName name) h = h
+refused_or plan limits (refusals.LimitKind name) h = h
+refused_or plan limits (refusals.Bind name) h = h
+refused_or plan limits (refusals.Range fault) h = h
+refused_or plan limits refusals.Memory h = absurd h
+
 -- what is told of a refused plan
 pub tells_plan : (c : Command) (files : PlanFiles) (refusal : PlanRefusal) → IsRefused files.plan.bytes files.ranges.bytes refusal
-    → (text : List ℕ) → TellsEach (IsPlanLine files) (refusal ∷ []) text → TellsOn c files text
+    → (text : List ℕ) → TellsFaults files refusal text → TellsOn c files text
 tells_plan Check files refusal refused text h = record { refusal = refusal; refused = refused; tells = h }
 tells_plan (Once values) files refusal refused text h = inl (record { refusal = refusal; refused = refused; tells = h })
 

@@ -1,5 +1,5 @@
 -- Why an answer on two files is a refusal, in plain words.
-use Rattle.std.specs.Prelude.{◌≡◌, ◌⊎◌, ℕ, List, [], ◌∷◌, Option, Some, slice_get}
+use Rattle.std.specs.Prelude.{◌≡◌, ◌⊎◌, ℕ, List, [], Option, Some, slice_get}
 use Rattle.std.specs.Option.{ForSome}
 use Rattle.outside.specs.Told.{FileMap}
 use Rattle.payroll_records.specs.declared.values.NamedValue.{NamedValue}
@@ -9,7 +9,8 @@ use Rattle.pap_plan.specs.declared.refusal.PlanRefusal.{PlanRefusal}
 use Rattle.pap_plan.specs.Acceptance.{Meaning, IsAccepted, IsRefused}
 use Rattle.pay_run.specs.Accepted.{Accepted}
 use Rattle.pay_run.specs.Runs.{filled}
-use Rattle.diagnostics.specs.FaultLines.{IsPlanLine, IsStateLine, TellsEach}
+use Rattle.diagnostics.specs.FaultLines.{IsStateLine, TellsEach}
+use Rattle.diagnostics.specs.FurtherFaults.{TellsFaults}
 use Rattle.diagnostics.specs.RunReasons.{run_reasons}
 use Rattle.plain_words.specs.Places.{PlanFiles}
 use Rattle.plan_answers.specs.Fronts.{AreFronts}
@@ -33,11 +34,11 @@ pub record TellsReasons (values : List NamedValue) (p : Accepted) (files : PlanF
   pub first : slice_get (run_reasons p values) 0 ≡ Some state
   pub tells : TellsEach (IsStateLine files) (run_reasons p values) text
 
--- the plan of these files is refused: the text tells that in a line
+-- the plan of these files is refused: the text tells that in its first line, and then further faults
 pub record TellsRefusal (files : PlanFiles) (text : List ℕ) : Type 0 where
   pub refusal : PlanRefusal
   pub refused : IsRefused files.plan.bytes files.ranges.bytes refusal
-  pub tells : TellsEach (IsPlanLine files) (refusal ∷ []) text
+  pub tells : TellsFaults files refusal text
 
 -- these files are accepted, and a run on these values has no inputs: the text tells all reasons, of which the first is the one that
 -- is answered

@@ -1,14 +1,14 @@
 //! The answer on two files.
-ghost use Rattle.std.specs.Prelude.{◌≡◌, ◌≢◌, ◌+◌, ◌∷◌, [], true, None, Ok, IfOk, IfSome, OnErr, is_some, string_bytes};
+ghost use Rattle.std.specs.Prelude.{◌≡◌, ◌≢◌, ◌+◌, true, None, Ok, IfOk, IfSome, OnErr, is_some, string_bytes};
 ghost use Rattle.outside.specs.Causes.{Caused};
+ghost use Rattle.pap_plan.specs.Acceptance.{IsRefused};
 ghost use Rattle.plain_words.specs.Places.{files_of};
 ghost use Rattle.plan_answers.specs.Answers.{IsRefusal};
-ghost use Rattle.plan_answers.specs.Refusals.{HasItsPlan};
 ghost use Rattle.script_steps.specs.Shown.{shown};
 ghost use Rattle.pap_cli.specs.FileClauses.{IsCounted, LeavesOnFiles};
 ghost use Rattle.script_run.specs.Notes.{AreNoted, notes_shown};
 ghost use Rattle.pap_cli.specs.Reasons.{IsReasonOn};
-ghost use Rattle.diagnostics.specs.FaultLines.{IsPlanLine, TellsEach};
+ghost use Rattle.diagnostics.specs.FurtherFaults.{TellsFaults};
 ghost use Rattle.pap_cli.specs.Statuses.{status_of};
 ghost use Rattle.pap_cli.specs.private.AnswerViews.{answer_of, answers_of, refused_of};
 ghost use Rattle.pap_cli.specs.private.ReasonViews.{HasReasonOn, TellsOn};
@@ -17,7 +17,7 @@ use crate::check::check_reply;
 use crate::once::run_reply;
 use crate::reply::FileReply;
 use crate::words::{Command, FileRequest};
-use diagnostics::plan_lines;
+use diagnostics::refusal_lines;
 use outside::{Files, Sink, put_all};
 use pap_plan::{PlanRefusal, accept};
 use plain_words::TextFile;
@@ -54,22 +54,21 @@ fn reply_on_bytes<L: Ledger>(
     }
 }
 
-/// The refusal of a plan and its range file, with its reason.
+/// The refusal of a plan and its range file, with its reason and further faults.
 fn refused_reply(
     alloc: Global,
     plan: TextFile<'_>,
     limits: TextFile<'_>,
     fault: &PlanRefusal,
 ) -> Result<FileReply, AllocError>
-    requires { HasItsPlan plan.bytes.now fault.now }
+    requires { IsRefused plan.bytes.now limits.bytes.now fault.now }
     ensures answer { IfOk result
         (λ reply. IsRefusal plan.entry.bytes.now fault.now (answer_of reply)) }
     ensures reason { IfOk result (λ reply. IfSome reply.reason (λ text.
-        TellsEach (IsPlanLine (files_of plan.entry limits.entry)) (fault.now ∷ [])
-        (string_bytes text))) }
+        TellsFaults (files_of plan.entry limits.entry) fault.now (string_bytes text))) }
 {
     let Reply { text, steps, .. } = refused(alloc, plan.bytes, fault)?;
-    let reason = plan_lines(alloc, plan, limits, fault, &[])?;
+    let reason = refusal_lines(alloc, plan, limits, fault)?;
     Ok(FileReply {
         text,
         reason: Some(reason),

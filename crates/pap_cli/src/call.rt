@@ -73,8 +73,8 @@ pub fn papcalc<F: Files, R: Source, W: Sink, L: Ledger>(
 }
 
 /// Does what [`papcalc`] does, and says why something is refused. Where the answer on two files is a refusal, its reason is put to
-/// the notes behind it: a line of plain words, which begins with the file and the place in it. That a call of the notes may fail
-/// changes nothing else. Of the script that `run` or `save` carries out the reason of each refused line is put to them right behind
+/// the notes behind it: a line of plain words, which begins with the file and the place in it, and then lines of further faults. That
+/// a call of the notes may fail changes nothing else. Of the script that `run` or `save` carries out the reason of each refused line is put to them right behind
 /// its answer, a line `stdin:NUMBER: WHY`, and at the script's end how many lines were refused. It counts the lines that were answered
 /// and refused, also where the script stops before its end. Under all other words these counts stay as they were.
 pub fn papcalc_told<F: Files, R: Source, W: Sink, N: Sink, L: Ledger>(

@@ -1,12 +1,12 @@
-use Rattle.std.proofs.Common.{rules, refl, ◌≡◌, ◌≢◌, ◌+◌, [], ◌∷◌, inl, arith}
+use Rattle.std.proofs.Common.{rules, refl, ◌≡◌, ◌≢◌, ◌+◌, inl, arith}
 use Rattle.std.specs.Prelude.{IfSome, string_bytes}
 use Rattle.pap_plan.specs.Plans.{meaning}
 use Rattle.pap_plan.specs.declared.refusal.PlanRefusal.TheVariants as refusals
 use Rattle.pay_run.specs.Accepted.{accepted}
-use Rattle.diagnostics.specs.FaultLines.{IsPlanLine, TellsEach}
+use Rattle.diagnostics.specs.FurtherFaults.{TellsFaults}
 use Rattle.plain_words.specs.Places.{files_of}
 use Rattle.plan_answers.specs.Answers.{acceptance, CheckAnswers, IsRefusal}
-use Rattle.plan_answers.proofs.Laws.{if_ok_map, its_plan, on_err_any, on_err_map, refusal_steps}
+use Rattle.plan_answers.proofs.Laws.{if_ok_map, on_err_any, on_err_map, refusal_steps}
 use Rattle.pap_cli.specs.FileClauses.{IsCounted}
 use Rattle.pap_cli.specs.RunAnswers.{OnceAnswers}
 use Rattle.pap_cli.specs.declared.words.Command.TheVariants as commands
@@ -18,7 +18,9 @@ use Rattle.pap_cli.proofs.RunLemmas.{answer_refused, counted_map, check_accepted
 use Rattle.pap_cli.proofs.answer.reply_on_bytes.Goals as goal
 
 pub refused_reply-requires : goal.refused_reply-requires
-refused_reply-requires g c = its_plan c.args.plan.bytes.now c.args.limits.bytes.now c.in-Err.fault c.in-Err.ensures.refused
+refused_reply-requires g c =
+    let other : c.in-Err.fault ≢ refusals.Memory = search rules in
+    refused_is c.args.plan.bytes.now c.args.limits.bytes.now c.in-Err.fault other c.in-Err.ensures.refused
 
 -- ---- `check` on an accepted plan
 
@@ -93,7 +95,7 @@ returns-clause-reason g c =
     let other : c.in-Err.fault ≢ refusals.Memory = search rules in
     let fault = c.in-Err.fault in
     let files = files_of c.args.plan c.args.limits in
-    let Tells = TellsEach (IsPlanLine files) (fault ∷ []) in
+    let Tells = TellsFaults files fault in
     let Says = TellsOn c.args.command files in
     let refused = refused_is c.args.plan.bytes.now c.args.limits.bytes.now fault other c.in-Err.ensures.refused in
     if_ok_map c.refused_reply.result (λ reply. IfSome reply.reason (λ text. Tells (string_bytes text)))
