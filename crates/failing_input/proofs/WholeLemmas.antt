@@ -9,22 +9,25 @@ use Rattle.pap_types.specs.Counts.{IsWithinCounts}
 use Rattle.interval_walk.specs.Admission.{HaveLimits}
 use Rattle.failing_input.specs.declared.search.Search.{Search}
 use Rattle.failing_input.specs.declared.search.Search.TheVariants.{Fails, Safe, NotFound}
-use Rattle.failing_input.specs.Searches.{PassesWalk, AreSafeParts, IsSearchAnswer}
+use Rattle.failing_input.specs.Searches.{PassesWalk, IsShownSafe, IsSearchAnswer}
 use Rattle.failing_input.specs.private.PartViews.{IsOutcome}
 use Rattle.failing_input.proofs.PartLemmas.{admitted_same, passed_same, passed_safe}
 
 pub whole_safe : (f : Flowchart) (limits part : Limits) (parts : List Limits) → IsWellTyped f → IsWithinCounts f
     → HaveLimits f limits → PassesWalk f limits → part.inputs ≡ limits.inputs → parts ≡ part ∷ []
-    → AreSafeParts f limits parts
-whole_safe f limits part parts typed counts h passed e is = subst (AreSafeParts f limits) (sym is) (record {
-  cover = λ inputs a. (0, part, omega arith, refl, admitted_same limits part f.inputs inputs (sym e) a);
-  passed = All-cons (PassesWalk f) part [] (passed_same f limits part (sym e) passed) (All-nil (PassesWalk f));
-  safe = λ inputs a. passed_safe f limits inputs typed counts h passed a;
+    → IsShownSafe f limits parts
+whole_safe f limits part parts typed counts h passed e is = subst (IsShownSafe f limits) (sym is) (record {
+  are = record {
+    cover = λ inputs a. (0, part, omega arith, refl, admitted_same limits part f.inputs inputs (sym e) a);
+    passed = All-cons (PassesWalk f) part [] (passed_same f limits part (sym e) passed) (All-nil (PassesWalk f));
+    safe = λ inputs a. passed_safe f limits inputs typed counts h passed a;
+  };
+  whole = λ p. refl;
 })
 
 -- what comes of a search in parts of ranges that the walk refuses
 pub found_from : (f : Flowchart) (limits : Limits) (s : Search) → ¬ (PassesWalk f limits) → IsOutcome f limits s
     → IsSearchAnswer f limits s
 found_from f limits (Fails inputs failure) refused h = h
-found_from f limits (Safe parts) refused h = h
+found_from f limits (Safe parts) refused h = record { are = h; whole = λ p. absurd (refused p) }
 found_from f limits (NotFound parts) refused h = record { refused = refused; few = h }

@@ -1,5 +1,5 @@
 -- What a search for failing inputs answers.
-use Rattle.std.specs.Prelude.{◌≡◌, ◌≤◌, ℕ, List, Any, All, Ok}
+use Rattle.std.specs.Prelude.{◌≡◌, ◌≤◌, ℕ, List, length, Any, All, Ok}
 use Rattle.scaled_decimal.specs.Decimals.{Decimal}
 use Rattle.pap_tree.specs.Flowchart.{Flowchart}
 use Rattle.limits_file.specs.declared.limits.Limits.{Limits}
@@ -49,6 +49,11 @@ pub record AreSafeParts (f : Flowchart) (limits : Limits) (parts : List Limits) 
 
 -- ---- the answer
 
+-- these parts are safe; where the walk passes from the limits themselves there is one part
+pub record IsShownSafe (f : Flowchart) (limits : Limits) (parts : List Limits) : Type 0 where
+  pub are : AreSafeParts f limits parts
+  pub whole : PassesWalk f limits → length parts ≡ 1
+
 -- a search that found nothing walked so many parts, and the walk doesn't pass from the limits
 pub record IsUndecided (f : Flowchart) (limits : Limits) (parts : ℕ) : Type 0 where
   pub refused : ¬ (PassesWalk f limits)
@@ -57,5 +62,5 @@ pub record IsUndecided (f : Flowchart) (limits : Limits) (parts : ℕ) : Type 0 
 -- this is the answer of a search
 abbrev pub IsSearchAnswer : Flowchart → Limits → Search → Type 0
 IsSearchAnswer f limits (Fails inputs failure) = IsFailingInput f limits inputs.items failure
-IsSearchAnswer f limits (Safe parts) = AreSafeParts f limits parts.items
+IsSearchAnswer f limits (Safe parts) = IsShownSafe f limits parts.items
 IsSearchAnswer f limits (NotFound parts) = IsUndecided f limits parts

@@ -1,12 +1,15 @@
 //! What is told of a search.
-ghost use Rattle.std.specs.Prelude.{◌≡◌, ◌++◌, ◌≤◌, length, map, IfOk, OnOk};
+ghost use Rattle.std.specs.Prelude.{◌≡◌, ◌++◌, ◌≤◌, length, map, string_bytes, IfOk, OnOk};
 ghost use Rattle.std.specs.List.{flat_map};
 ghost use Rattle.pap_tree.specs.Declarations.{declaration_of};
 ghost use Rattle.pap_tree.specs.Flowchart.{flowchart_of};
 ghost use Rattle.failing_input.specs.Searches.{IsSearchAnswer};
-ghost use Rattle.failing_input.specs.SearchTexts.{search_text, fails_text, parts_text, input_word, input_words, part_line, part_words, range_word, is_same_range};
+ghost use Rattle.failing_input.specs.SearchTexts.{search_text, fails_text, failure_line, failure_word, input_word, input_words};
+ghost use Rattle.failing_input.specs.SearchTexts.{parts_text, parts_word, part_line, part_words, range_word, is_same_range};
 
+use crate::failure::Failure;
 use crate::search::Search;
+use checked_run::FailureCause;
 use limits_file::{InputLimit, Limits};
 use pap_tree::{Declared, Name};
 use pap_types::Typed;
@@ -14,8 +17,9 @@ use scaled_decimal::Dec;
 use std::alloc::{AllocError, Global};
 use std::cmp::Ordering;
 
-/// The text of what was found of a plan with its limits: `fails NAME=VALUE ..` with the inputs in declared order; `safe in N parts`
-/// and a line `part NAME=LOW..HIGH ..` for each part, with those ranges that are not whole there; or `not found in N parts`.
+/// The text of what was found of a plan with its limits: `fails NAME=VALUE ..` with the inputs in declared order, and below it
+/// `at PLACE CAUSE` or `output NAME`; `safe in N parts` and a line `part NAME=LOW..HIGH ..` for each part, with those ranges that are
+/// not whole there; or `not found in N parts`.
 pub fn search_text(
     alloc: Global,
     t: &Typed,
@@ -27,26 +31,64 @@ pub fn search_text(
         text.items ≡ search_text (flowchart_of t.now) limits.now found.now) }
 {
     match found {
-        Search::Fails { inputs, .. } => {
-            fails_text(alloc, t.plan().inputs.as_slice(), inputs.as_slice())
+        Search::Fails { inputs, failure } => {
+            fails_text(
+                alloc,
+                t.plan().inputs.as_slice(),
+                inputs.as_slice(),
+                failure,
+            )
         }
         Search::Safe(parts) => parts_text(alloc, limits, parts.as_slice()),
         Search::NotFound(parts) => {
-            Ok(format!(in alloc; "not found in {parts} parts\n")?.into_bytes())
+            let parts = parts_word(alloc, *parts as usize)?;
+            Ok(format!(in alloc; "not found in {parts}\n")?.into_bytes())
         }
     }
 }
 
-/// The inputs on which a run fails.
-fn fails_text(alloc: Global, declared: &[Declared], inputs: &[Dec]) -> Result<Vec<u8>, AllocError>
+/// The inputs on which a run fails, and what goes wrong.
+fn fails_text(
+    alloc: Global,
+    declared: &[Declared],
+    inputs: &[Dec],
+    failure: &Failure,
+) -> Result<Vec<u8>, AllocError>
     requires { length declared.now ≤ length inputs.now }
     ensures { IfOk result (λ text.
-        text.items ≡ fails_text (map declaration_of declared.now) inputs.now) }
+        text.items ≡ fails_text (map declaration_of declared.now) inputs.now failure.now) }
 {
     let mut out = Vec::from_slice(alloc, b"fails")?;
     write_values(alloc, &mut out, declared, inputs)?;
     out.push(b'\n')?;
+    let line = failure_line(alloc, failure)?;
+    out.extend_from_slice(line.as_bytes())?;
     Ok(out)
+}
+
+/// What goes wrong in a run, as a line.
+fn failure_line(alloc: Global, failure: &Failure) -> Result<String, AllocError>
+    ensures { IfOk result (λ line. string_bytes line ≡ failure_line failure.now) }
+{
+    match failure {
+        Failure::Node { place, cause } => {
+            let word = failure_word(*cause);
+            format!(in alloc; "at {place} {word}\n")
+        }
+        Failure::Output { name } => format!(in alloc; "output {name}\n"),
+    }
+}
+
+/// The word for why a node fails.
+fn failure_word(cause: FailureCause) -> &'static str
+    ensures { result.now ≡ failure_word cause }
+{
+    match cause {
+        FailureCause::Wide => "Wide",
+        FailureCause::Scale => "Scale",
+        FailureCause::Divisor => "Divisor",
+        FailureCause::Index => "Index",
+    }
 }
 
 /// Appends the inputs with their values.
@@ -78,10 +120,21 @@ fn write_value(alloc: Global, out: &mut Vec<u8>, name: &Name, value: Dec) -> Res
 fn parts_text(alloc: Global, limits: &Limits, parts: &[Limits]) -> Result<Vec<u8>, AllocError>
     ensures { IfOk result (λ text. text.items ≡ parts_text limits.now parts.now) }
 {
-    let count = parts.len();
-    let mut out = format!(in alloc; "safe in {count} parts\n")?.into_bytes();
+    let count = parts_word(alloc, parts.len())?;
+    let mut out = format!(in alloc; "safe in {count}\n")?.into_bytes();
     write_parts(alloc, &mut out, limits, parts)?;
     Ok(out)
+}
+
+/// So many parts.
+fn parts_word(alloc: Global, count: usize) -> Result<String, AllocError>
+    ensures { IfOk result (λ word. string_bytes word ≡ parts_word count) }
+{
+    if count == 1 {
+        format!(in alloc; "{count} part")
+    } else {
+        format!(in alloc; "{count} parts")
+    }
 }
 
 /// Appends a line for each part.
