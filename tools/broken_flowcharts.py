@@ -1,10 +1,10 @@
 #!/usr/bin/env python3
 """Breaks flowcharts at random and tells how many of the refused ones are decided: broken_flowcharts.py PROGRAM [COUNT [SEED]].
 
-PROGRAM is the search of tools/benches/failing_search (`TRY=1 tools/bench.sh failing_search`, or its proved build). Each trial takes a
-flowchart of examples/ with its range file and changes a few of its numbers, operators, comparisons and methods, or an end of a range. A
-flowchart that isn't one any more, or that the walk passes whole, doesn't count. Of the others, which the walk refuses, it counts those on
-which the search finds an input that fails, those of which it shows that every input is safe, and those that stay open."""
+PROGRAM is what looks for inputs that fail, as `"build/pap_author example"`. Each trial takes a flowchart of examples/ with its range file
+and changes a few of its numbers, operators, comparisons and methods, or an end of a range. A flowchart that isn't one any more, or that the
+walk passes whole, doesn't count. Of the others, which the walk refuses, it counts those on which the search finds an input that fails, those
+of which it shows that every input is safe, and those that stay open."""
 import collections
 import glob
 import os

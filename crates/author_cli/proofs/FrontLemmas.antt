@@ -11,7 +11,7 @@ use Rattle.limits_file.specs.Faults.{Fault, too_long, no_toml, bad_key, bad_boun
 use Rattle.limits_file.specs.RangeFiles.{FileSays, IsNoToml}
 use Rattle.pap_plan.specs.declared.refusal.PlanRefusal.{PlanRefusal}
 use Rattle.pap_plan.specs.declared.refusal.PlanRefusal.TheVariants as refusals
-use Rattle.pap_plan.specs.Acceptance.{Meaning, IsAccepted, IsRefused}
+use Rattle.pap_plan.specs.Acceptance.{Meaning, HasBindings, IsAccepted, IsRefused}
 use Rattle.plan_answers.specs.Fronts.{AreFronts}
 use Rattle.plan_answers.proofs.Laws.{whole, longer, front_there, answers_front, accepted_whole, refusal_answer}
 use Rattle.plan_notes.specs.Notes.{HasNotes}
@@ -22,10 +22,11 @@ use Rattle.flowchart_methods.specs.declared.site.Site.{Site}
 use Rattle.flowchart_page.specs.Findings.{Finding, accepted, in_order, refused, IsFound}
 use Rattle.flowchart_page.specs.Runs.{RunParts}
 use Rattle.flowchart_page.specs.Pages.{AreLimits, IsPlanTable, AreTreeTexts, ArePlanTexts, Says, Shows, IsRunPage, IsPage}
-use Rattle.author_cli.specs.Words.{chart, chart_within, ranges, compared, traced, drawn}
+use Rattle.author_cli.specs.Words.{chart, chart_within, ranges, compared, traced, drawn, example}
 use Rattle.author_cli.specs.Compared.{IsUnreadable, IsCompared}
 use Rattle.author_cli.specs.Drawn.{IsDrawnRun, IsDrawnBlocked, IsDrawnRefused, IsDrawn}
-use Rattle.author_cli.specs.Traced.{IsToldRun, IsBlockedRun, IsRefusedRun, IsTraced}
+use Rattle.author_cli.specs.Examples.{TellsSearch, IsUnsearched, IsExample}
+use Rattle.author_cli.specs.Traced.{IsToldRun, IsBlockedRun, IsRefusedAs, IsTraced}
 use Rattle.payroll_records.specs.declared.values.NamedValue.{NamedValue}
 use Rattle.author_cli.specs.private.TwoFronts.{AreTwoFronts}
 use Rattle.pap_tree.specs.Flowchart.{Flowchart}
@@ -302,13 +303,13 @@ module _ (n m : ℕ) (more_plan : 1048576 < n) (more_limits : 262144 < m) where
       subst (λ l. IsBlockedRun values plan (record { name = limits.name; bytes = l }) text reason) w.1
       (subst (λ p. IsBlockedRun values (record { name = plan.name; bytes = p }) (front m limits) text reason) w.0 h)
 
-  refused_run_front : (plan limits : NamedText) (text : List ℕ) (reason : Option (List ℕ))
-      → IsRefusedRun (front n plan) (front m limits) text reason → IsRefusedRun plan limits text reason
-  refused_run_front plan limits text reason h =
-      let a = refusal_answer n m more_plan more_limits plan.bytes h.refusal (refusal h.detail)
+  refusal_front : (r : PlanRefusal) (plan limits : NamedText) (text : List ℕ) (reason : Option (List ℕ))
+      → IsRefusedAs r (front n plan) (front m limits) text reason → IsRefusedAs r plan limits text reason
+  refusal_front r plan limits text reason h =
+      let a = refusal_answer n m more_plan more_limits plan.bytes r (refusal h.detail)
       (record { detail = h.detail; has = h.has; is = refl }) in
       record {
-        refusal = h.refusal;
+        refused = refused_front plan.bytes limits.bytes r h.refused;
         detail = a.detail;
         has = a.has;
         written = h.written ∙ ap (λ (x : Written). x.text) a.is;
@@ -321,7 +322,39 @@ module _ (n m : ℕ) (more_plan : 1048576 < n) (more_limits : 262144 < m) where
       → IsTraced values (front n plan) (front m limits) text reason → IsTraced values plan limits text reason
   traced_front values plan limits text reason (inl h) = inl (told_front values plan.bytes limits.bytes text reason h)
   traced_front values plan limits text reason (inr (inl h)) = inr (inl (blocked_front values plan limits text reason h))
-  traced_front values plan limits text reason (inr (inr h)) = inr (inr (refused_run_front plan limits text reason h))
+  traced_front values plan limits text reason (inr (inr h)) =
+      inr (inr (h.0, refusal_front h.0 plan limits text reason h.1))
+
+  -- ---- a search
+
+  bound_front : (plan limits : List ℕ) (f : Flowchart) (l : Limits) → HasBindings (take n plan) (take m limits) f l
+      → HasBindings plan limits f l
+  bound_front plan limits f l h =
+      subst (λ b. HasBindings plan b f l) (whole 262144 m limits more_limits h.suited.named.file.file.1.short)
+      (subst (λ b. HasBindings b (take m limits) f l)
+      (whole 1048576 n plan more_plan h.suited.named.file.ordered.typed.text.read.short) h)
+
+  search_front : (plan limits text : List ℕ) (reason : Option (List ℕ))
+      → TellsSearch (take n plan) (take m limits) text reason → TellsSearch plan limits text reason
+  search_front plan limits text reason h = record {
+    flowchart = h.flowchart;
+    ranges = h.ranges;
+    bound = bound_front plan limits h.flowchart h.ranges h.bound;
+    tells = h.tells;
+  }
+
+  unsearched_front : (plan limits : NamedText) (text : List ℕ) (reason : Option (List ℕ))
+      → IsUnsearched (front n plan) (front m limits) text reason → IsUnsearched plan limits text reason
+  unsearched_front plan limits text reason h = record {
+    refusal = h.refusal;
+    early = h.early;
+    tells = refusal_front h.refusal plan limits text reason h.tells;
+  }
+
+  example_front : (plan limits : NamedText) (text : List ℕ) (reason : Option (List ℕ))
+      → IsExample (front n plan) (front m limits) text reason → IsExample plan limits text reason
+  example_front plan limits text reason (inl h) = inl (search_front plan.bytes limits.bytes text reason h)
+  example_front plan limits text reason (inr h) = inr (unsearched_front plan limits text reason h)
 
   -- ---- the page of a run
 
@@ -456,4 +489,20 @@ drawn_of files values plan limits bytes bytes' a read h =
           (subst (λ b. IsDrawn values (file_of plan b) (file_of limits (take 262145 read.limits_bytes)) a.text a.reason)
           read.plan_read
           (subst (λ b. IsDrawn values (file_of plan bytes) (file_of limits b) a.text a.reason) read.limits_read h));
+    }
+
+pub example_of : (files : FileMap) (plan limits bytes bytes' : List ℕ) (a : Answer)
+    → AreFronts files plan limits bytes bytes' → IsExample (file_of plan bytes) (file_of limits bytes') a.text a.reason
+    → Answers (example plan limits) files a
+example_of files plan limits bytes bytes' a read h =
+    record {
+      plan_bytes = read.plan_bytes;
+      limits_bytes = read.limits_bytes;
+      plan_there = read.plan_there;
+      limits_there = read.limits_there;
+      is = example_front 1048577 262145 (omega arith) (omega arith)
+          (file_of plan read.plan_bytes) (file_of limits read.limits_bytes) a.text a.reason
+          (subst (λ b. IsExample (file_of plan b) (file_of limits (take 262145 read.limits_bytes)) a.text a.reason)
+          read.plan_read
+          (subst (λ b. IsExample (file_of plan bytes) (file_of limits b) a.text a.reason) read.limits_read h));
     }

@@ -7,3 +7,4 @@ mod LeavesLemmas
 mod DraftLemmas
 mod TracedLemmas
 mod DrawnLemmas
+mod ExampleLemmas

@@ -29,7 +29,7 @@ use Rattle.plan_notes.specs.declared.tag.Mark.{Mark}
 use Rattle.plan_notes.specs.Notes.{HasNotes}
 use Rattle.source_lines.specs.Lines.{FileLines, lines_of_file}
 use Rattle.run_trace.specs.RunTexts.{TellsRun}
-use Rattle.author_cli.specs.Traced.{filled_alone, IsRefusedRun, IsTraced}
+use Rattle.author_cli.specs.Traced.{filled_alone, IsRefusedAs, IsTraced}
 use Rattle.author_cli.specs.private.TracedViews.{IsRunOf, SaysBlocked}
 
 -- ---- a run without earlier ones waits for none
@@ -104,9 +104,9 @@ blocked_run values given plan limits p state found text reason h same is are r =
 pub refused_run : (plan limits : TextFile) (r : PlanRefusal) (written : Written) (text : List ℕ) (reason : Option (List ℕ))
     (words : List ℕ) → IsRefusedOrMemory plan.bytes.now limits.bytes.now r → IsRefusal plan.bytes.now r written
     → text ≡ written.text → reason ≡ Some words → IsOneLine words → BeginsAtRefusal (files_of plan limits) r words
-    → IsRefusedRun (named_text plan) (named_text limits) text reason
+    → IsRefusedAs r (named_text plan) (named_text limits) text reason
 refused_run plan limits r written text reason words refused has same said line begins = record {
-  refusal = r;
+  refused = refused_is plan.bytes.now limits.bytes.now r written refused has;
   detail = has.detail;
   has = has.has;
   written = same ∙ ap (λ (a : Written). a.text) has.is;

@@ -7,7 +7,7 @@ use Rattle.std.proofs.Math.Seq.{drop-cons}
 use Rattle.payroll_records.specs.ValueWords.{AreValueWords}
 use Rattle.payroll_records.specs.declared.values.NamedValue.{NamedValue}
 use Rattle.payroll_records.proofs.Laws.{values_once}
-use Rattle.author_cli.specs.Words.{texts, Form, chart, chart_within, ranges, compared, traced, drawn, HasForm, IsBad}
+use Rattle.author_cli.specs.Words.{texts, Form, chart, chart_within, ranges, compared, traced, drawn, example, HasForm, IsBad}
 use Rattle.author_cli.specs.private.WordViews.{text_words}
 
 two_three : (a b c d e : List ℕ) → a ∷ b ∷ [] ≡ c ∷ d ∷ e ∷ [] → ⊥
@@ -21,6 +21,12 @@ three_more a b c d e f g rest h = let l : 3 ≡ suc (suc (suc (suc (length rest)
 
 chart_ranges : codes "chart" ≡ codes "ranges" → ⊥
 chart_ranges e = cc
+
+chart_example : codes "chart" ≡ codes "example" → ⊥
+chart_example e = cc
+
+example_trace : codes "example" ≡ codes "trace" → ⊥
+example_trace e = cc
 
 chart_trace : codes "chart" ≡ codes "trace" → ⊥
 chart_trace e = let c : 99 ≡ 116 = ap (λ w. get_or w 0 0) e in omega (arith, c)
@@ -111,6 +117,25 @@ one_form words (drawn p l vs) (drawn q m us) h k =
     ap (λ w. drawn (get_or w 1 []) (get_or w 2 []) vs) same
     ∙ ap (λ v. drawn q m v)
     (values_once k.rest vs us (subst (λ r. AreValueWords r vs) (ap (λ w. drop 3 w) same) h.values_are) k.values_are)
+one_form words (chart p) (example q l) h k = absurd (two_three _ p _ q l (sym h ∙ k))
+one_form words (chart_within p m) (example q l) h k =
+    absurd (chart_example (first words _ _ (p ∷ m ∷ []) (q ∷ l ∷ []) h k))
+one_form words (ranges p) (example q l) h k = absurd (two_three _ p _ q l (sym h ∙ k))
+one_form words (compared o n) (example q l) h k = absurd (three_more _ q l _ _ o n [] (sym k ∙ h))
+one_form words (traced p m vs) (example q l) h k = absurd (three_more _ q l _ _ p m h.rest (sym k ∙ h.words_are))
+one_form words (example q l) (chart p) h k = absurd (two_three _ p _ q l (sym k ∙ h))
+one_form words (example q l) (chart_within p m) h k =
+    absurd (chart_example (first words _ _ (p ∷ m ∷ []) (q ∷ l ∷ []) k h))
+one_form words (example q l) (ranges p) h k = absurd (two_three _ p _ q l (sym k ∙ h))
+one_form words (example q l) (compared o n) h k = absurd (three_more _ q l _ _ o n [] (sym h ∙ k))
+one_form words (example q l) (traced p m vs) h k = absurd (three_more _ q l _ _ p m k.rest (sym h ∙ k.words_are))
+one_form words (example p l) (example q m) h k =
+    ap (λ x. example x l) (second words _ p _ q (l ∷ []) (m ∷ []) h k)
+    ∙ ap (λ x. example q x) (third words _ p l _ q m h k)
+one_form words (drawn q l vs) (example p m) h k =
+    absurd (example_trace (first words _ _ (p ∷ m ∷ []) (q ∷ l ∷ h.rest) k h.words_are))
+one_form words (example p m) (drawn q l vs) h k =
+    absurd (example_trace (first words _ _ (p ∷ m ∷ []) (q ∷ l ∷ k.rest) h k.words_are))
 
 -- ---- no form
 
@@ -123,16 +148,18 @@ no_two command plan no_chart no_ranges (ranges p) h = no_ranges (ap (λ w. get_o
 no_two command plan no_chart no_ranges (compared o n) h = two_more _ plan _ _ o n [] h
 no_two command plan no_chart no_ranges (traced p l vs) h = two_more _ plan _ _ p l h.rest h.words_are
 no_two command plan no_chart no_ranges (drawn p l vs) h = two_rest _ plan _ p l h.rest h.words_are
+no_two command plan no_chart no_ranges (example p l) h = two_three _ plan _ p l h
 
 -- a command and two names
-pub no_three : (command plan limits : List ℕ) → ¬ (command ≡ codes "chart") → ¬ (command ≡ codes "trace")
+pub no_three : (command plan limits : List ℕ) → ¬ (command ≡ codes "chart") → ¬ (command ≡ codes "trace") → ¬ (command ≡ codes "example")
     → IsBad (command ∷ plan ∷ limits ∷ [])
-no_three command plan limits no_chart no_trace (chart p) h = two_three _ p _ plan limits (sym h)
-no_three command plan limits no_chart no_trace (chart_within p l) h = no_chart (ap (λ w. get_or w 0 []) h)
-no_three command plan limits no_chart no_trace (ranges p) h = two_three _ p _ plan limits (sym h)
-no_three command plan limits no_chart no_trace (compared o n) h = three_more _ plan limits _ _ o n [] h
-no_three command plan limits no_chart no_trace (traced p l vs) h = three_more _ plan limits _ _ p l h.rest h.words_are
-no_three command plan limits no_chart no_trace (drawn p l vs) h = no_trace (ap (λ w. get_or w 0 []) h.words_are)
+no_three command plan limits no_chart no_trace no_example (chart p) h = two_three _ p _ plan limits (sym h)
+no_three command plan limits no_chart no_trace no_example (chart_within p l) h = no_chart (ap (λ w. get_or w 0 []) h)
+no_three command plan limits no_chart no_trace no_example (ranges p) h = two_three _ p _ plan limits (sym h)
+no_three command plan limits no_chart no_trace no_example (compared o n) h = three_more _ plan limits _ _ o n [] h
+no_three command plan limits no_chart no_trace no_example (traced p l vs) h = three_more _ plan limits _ _ p l h.rest h.words_are
+no_three command plan limits no_chart no_trace no_example (drawn p l vs) h = no_trace (ap (λ w. get_or w 0 []) h.words_are)
+no_three command plan limits no_chart no_trace no_example (example p l) h = no_example (ap (λ w. get_or w 0 []) h)
 
 -- a form, a command, two names and some words
 pub no_more : (form command first second : List ℕ) (rest : List (List ℕ))
@@ -148,6 +175,8 @@ no_more form command first second rest no_compare no_trace no_drawn (traced p l 
     no_trace (ap (λ w. get_or w 0 []) h.words_are) (ap (λ w. get_or w 1 []) h.words_are)
 no_more form command first second rest no_compare no_trace no_drawn (drawn p l vs) h =
     no_drawn (ap (λ w. get_or w 0 []) h.words_are)
+no_more form command first second rest no_compare no_trace no_drawn (example p l) h =
+    three_more _ p l _ _ first second rest (sym h)
 
 -- `text compare` and more than two names
 pub no_compared : (old new : List ℕ) (rest : List (List ℕ)) → ¬ (length rest ≡ 0)
@@ -158,6 +187,7 @@ no_compared old new rest more (ranges p) h = two_more _ p _ _ old new rest (sym 
 no_compared old new rest more (compared o n) h = more (ap (λ w. length (drop 4 w)) h)
 no_compared old new rest more (traced p l vs) h = compare_trace (ap (λ w. get_or w 1 []) h.words_are)
 no_compared old new rest more (drawn p l vs) h = text_trace (ap (λ w. get_or w 0 []) h.words_are)
+no_compared old new rest more (example p l) h = three_more _ p l _ _ old new rest (sym h)
 
 -- `text trace` and words that give no values
 pub no_traced : (plan limits : List ℕ) (rest : List (List ℕ)) → ((values : List NamedValue) → ¬ (AreValueWords rest values))
@@ -169,6 +199,7 @@ no_traced plan limits rest none (compared o n) h = compare_trace (sym (ap (λ w.
 no_traced plan limits rest none (traced p l vs) h =
     none vs (subst (λ r. AreValueWords r vs) (sym (ap (λ w. drop 4 w) h.words_are)) h.values_are)
 no_traced plan limits rest none (drawn p l vs) h = text_trace (ap (λ w. get_or w 0 []) h.words_are)
+no_traced plan limits rest none (example p l) h = three_more _ p l _ _ plan limits rest (sym h)
 
 -- `trace` and words that give no values
 pub no_drawn : (plan limits : List ℕ) (rest : List (List ℕ)) → ((values : List NamedValue) → ¬ (AreValueWords rest values))
@@ -180,6 +211,7 @@ no_drawn plan limits rest none (compared o n) h = text_trace (sym (ap (λ w. get
 no_drawn plan limits rest none (traced p l vs) h = text_trace (sym (ap (λ w. get_or w 0 []) h.words_are))
 no_drawn plan limits rest none (drawn p l vs) h =
     none vs (subst (λ r. AreValueWords r vs) (sym (ap (λ w. drop 3 w) h.words_are)) h.values_are)
+no_drawn plan limits rest none (example p l) h = example_trace (sym (ap (λ w. get_or w 0 []) h))
 
 as_many : (words : List (String Global)) (list : List (List ℕ)) → texts words ≡ list → length words ≡ length list
 as_many words list e = sym (length-map words (λ w. string_bytes w)) ∙ ap (λ w. length w) e
@@ -192,6 +224,7 @@ no_other words two few (ranges p) h = two (as_many words _ h)
 no_other words two few (compared o n) h = let l = as_many words _ h in omega (arith, l, few)
 no_other words two few (traced p l vs) h = let l = as_many words _ h.words_are in omega (arith, l, few)
 no_other words two few (drawn p l vs) h = let l = as_many words _ h.words_are in omega (arith, l, few)
+no_other words two few (example p l) h = let l = as_many words _ h in omega (arith, l, few)
 
 -- ---- all words
 

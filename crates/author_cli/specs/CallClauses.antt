@@ -6,7 +6,7 @@ use Rattle.outside.specs.Causes.{Still}
 use Rattle.outside.specs.Told.{FileMap, Appends, AppendsShort}
 use Rattle.plan_answers.specs.Fronts.{IsMissing}
 use Rattle.author_cli.specs.declared.stop.Stop.TheVariants as stops
-use Rattle.author_cli.specs.Words.{Form, chart, chart_within, ranges, compared, traced, drawn}
+use Rattle.author_cli.specs.Words.{Form, chart, chart_within, ranges, compared, traced, drawn, example}
 use Rattle.author_cli.specs.Answers.{Answer, Answers}
 use Rattle.author_cli.specs.Ends.{Ended, words_of}
 use Rattle.author_cli.specs.Outside.{Outside}
@@ -19,10 +19,11 @@ Lacks (ranges plan) told failed = failed ≡ Some plan
 Lacks (compared old new) told failed = IsMissing told old new failed
 Lacks (traced plan limits values) told failed = IsMissing told plan limits failed
 Lacks (drawn plan limits values) told failed = IsMissing told plan limits failed
+Lacks (example plan limits) told failed = IsMissing told plan limits failed
 
 -- ---- what each end leaves; of the text where the files tell what they hold, of the rest always
 
--- the whole answer was written, and these words say why a plan is refused, or that two differ, where that is so
+-- the whole answer was written, and these words say why a plan is refused, that two differ, or that a run fails, where that is so
 pub record IsWholeAnswer (form : Form) (before after : Outside) (words : Option (List ℕ)) : Type 0 where
   pub text : List ℕ
   pub written : Appends before.written after.written text
@@ -57,8 +58,8 @@ Leaves form before after (Err stops.Memory) = IsUnwritten before after
 
 -- ---- the headline
 
--- the files are there, the answer on them was written whole, and it is told why a plan is refused, or that two differ,
--- where that is so
+-- the files are there, the answer on them was written whole, and it is told why a plan is refused, that two differ, or that a run
+-- fails, where that is so
 pub record IsAnswered (form : Form) (files : FileMap) (written : List ℕ) (after : Outside) (ended : Ended)
     : Type 0 where
   pub answer : Answer

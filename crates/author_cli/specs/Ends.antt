@@ -4,7 +4,8 @@ use Rattle.std.specs.declared.alloc.Global.{Global}
 use Rattle.author_cli.specs.declared.stop.Stop.{Stop}
 use Rattle.author_cli.specs.declared.stop.Stop.TheVariants as stops
 
--- all was written, with the reason why a plan is refused, or that two differ, where that is so, or why the call stopped
+-- all was written, with the reason why a plan is refused, that two differ, or that a run fails, where that is so, or why the call
+-- stopped
 abbrev pub Ended : Type 0
 Ended = Result (Option (String Global)) Stop
 

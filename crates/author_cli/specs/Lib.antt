@@ -8,5 +8,6 @@ pub mod Laws
 pub mod Outside
 pub mod Words
 pub mod DraftLaws
+pub mod Examples
 pub mod Stops
 pub mod private

@@ -7,7 +7,7 @@ use Rattle.carry_bindings.specs.declared.filling.Blocked.TheVariants as blocked
 use Rattle.carry_bindings.specs.declared.filling.Filled.{Filled}
 use Rattle.carry_bindings.specs.declared.filling.Filled.TheVariants.{Inputs, State}
 use Rattle.pap_plan.specs.declared.refusal.PlanRefusal.{PlanRefusal}
-use Rattle.pap_plan.specs.Acceptance.{Meaning, IsAccepted}
+use Rattle.pap_plan.specs.Acceptance.{Meaning, IsAccepted, IsRefused}
 use Rattle.pay_run.specs.Runs.{filled}
 use Rattle.plan_answers.specs.Refusals.{HasDetail}
 use Rattle.plan_answers.specs.Lines.{refusal_line}
@@ -55,15 +55,20 @@ pub record IsBlockedRun (values : List NamedValue) (plan limits : NamedText) (te
   pub line : IsOneLine words
   pub says : SaysState (files_with plan (Some limits)) state words
 
--- the line of a refused plan, as `check` writes it, and the words that say why it is refused
-pub record IsRefusedRun (plan limits : NamedText) (text : List ℕ) (reason : Option (List ℕ)) : Type 0 where
-  pub refusal : PlanRefusal
+-- a plan is refused so: the line of that, as `check` writes it, and the words that say why
+pub record IsRefusedAs (refusal : PlanRefusal) (plan limits : NamedText) (text : List ℕ) (reason : Option (List ℕ))
+    : Type 0 where
+  pub refused : IsRefused plan.bytes limits.bytes refusal
   pub detail : List ℕ
   pub has : HasDetail plan.bytes refusal detail
   pub written : text ≡ refusal_line detail
   pub words : List ℕ
   pub said : reason ≡ Some words
   pub tells : TellsPlan (files_with plan (Some limits)) words
+
+-- the plan is refused, and it is told how
+abbrev pub IsRefusedRun : (plan limits : NamedText) → List ℕ → Option (List ℕ) → Type 0
+IsRefusedRun plan limits text reason = (r : PlanRefusal) × IsRefusedAs r plan limits text reason
 
 -- this is the answer of `text trace` on two files: the text of the run, or why there is none
 abbrev pub IsTraced : List NamedValue → (plan limits : NamedText) → List ℕ → Option (List ℕ) → Type 0

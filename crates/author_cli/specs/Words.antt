@@ -22,6 +22,8 @@ pub data Form : Type 0 where
   traced : List ℕ → List ℕ → List NamedValue → Form
   -- trace PLAN LIMITS NAME=VALUE ..
   drawn : List ℕ → List ℕ → List NamedValue → Form
+  -- example PLAN LIMITS
+  example : List ℕ → List ℕ → Form
 
 -- the words are `text trace`, the names of two files, and value words that give these values
 pub record HasTraceForm (words : List (List ℕ)) (plan limits : List ℕ) (values : List NamedValue) : Type 0 where
@@ -43,6 +45,7 @@ HasForm words (ranges plan) = words ≡ codes "ranges" ∷ plan ∷ []
 HasForm words (compared old new) = words ≡ codes "text" ∷ codes "compare" ∷ old ∷ new ∷ []
 HasForm words (traced plan limits values) = HasTraceForm words plan limits values
 HasForm words (drawn plan limits values) = HasDrawnForm words plan limits values
+HasForm words (example plan limits) = words ≡ codes "example" ∷ plan ∷ limits ∷ []
 
 -- the words have no form
 abbrev pub IsBad : List (List ℕ) → Type 0

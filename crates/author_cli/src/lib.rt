@@ -5,6 +5,7 @@ mod answer;
 mod call;
 mod compared;
 mod drawn;
+mod example;
 mod stop;
 mod traced;
 mod words;

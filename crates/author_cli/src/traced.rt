@@ -5,7 +5,7 @@ ghost use Rattle.pap_plan.specs.Acceptance.{IsRefusedOrMemory};
 ghost use Rattle.pap_plan.specs.AcceptanceClauses.{IsAcceptedAs};
 ghost use Rattle.pap_plan.specs.Plans.{Admits, flowchart};
 ghost use Rattle.plain_words.specs.Places.{named_text};
-ghost use Rattle.author_cli.specs.Traced.{IsTraced, IsRefusedRun, state_detail};
+ghost use Rattle.author_cli.specs.Traced.{IsTraced, IsRefusedAs, state_detail};
 ghost use Rattle.author_cli.specs.Ends.{words_of};
 ghost use Rattle.author_cli.specs.private.TracedViews.{IsRunOf, SaysBlocked};
 
@@ -124,14 +124,14 @@ pub(crate) fn state_detail(alloc: Global, state: &Blocked) -> Result<String, All
 
 /// The line of a refused plan, as `papcalc check` writes it, and why it is refused.
 #[tactic(auto, using(crate::proofs::TracedLemmas::refused_run))]
-fn answer_refused(
+pub(crate) fn answer_refused(
     alloc: Global,
     plan: TextFile<'_>,
     limits: TextFile<'_>,
     fault: &PlanRefusal,
 ) -> Result<Answer, AllocError>
     requires { IsRefusedOrMemory plan.bytes.now limits.bytes.now fault.now }
-    ensures { IfOk result (λ answer. IsRefusedRun
+    ensures { IfOk result (λ answer. IsRefusedAs fault.now
         (named_text plan.entry) (named_text limits.entry) answer.text.items (words_of answer.reason)) }
 {
     let reply = refused(alloc, plan.bytes, fault)?;

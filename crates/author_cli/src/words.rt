@@ -41,6 +41,11 @@ pub(crate) enum Request<'a> {
         limits: &'a str,
         values: Values,
     },
+    /// `example PLAN LIMITS`
+    Example {
+        plan: &'a str,
+        limits: &'a str,
+    },
 }
 
 /// What the words ask for. `None` where they have no form.
@@ -139,6 +144,7 @@ fn read_three<'a>(command: &str, plan: &'a str, limits: &'a str) -> Option<Reque
 {
     match command {
         "chart" => Some(Request::ChartWithin { plan, limits }),
+        "example" => Some(Request::Example { plan, limits }),
         _ => None,
     }
 }

@@ -1,4 +1,4 @@
-//! Helps the author of a flowchart: draws it as a page, begins its range file, compares it with another, and traces a run.
+//! Helps the author of a flowchart: draws it as a page, begins its range file, compares it with another, traces a run, and finds one that fails.
 #![tactic(auto)]
 
 use author_cli::{Stop, exit_number, pap_author};
@@ -11,7 +11,7 @@ use std::process::ExitCode;
 /// What is said where the words ask for nothing.
 const USAGE: &str =
     "usage: pap_author chart PLAN | pap_author chart PLAN LIMITS | pap_author ranges PLAN | \
-    pap_author trace PLAN LIMITS NAME=VALUE .. | pap_author text compare OLD NEW | \
+    pap_author trace PLAN LIMITS NAME=VALUE .. | pap_author example PLAN LIMITS | pap_author text compare OLD NEW | \
     pap_author text trace PLAN LIMITS NAME=VALUE ..";
 
 /// The answer to `--version`, with the checksum of the prover's rules by which the contracts are proved.
@@ -19,7 +19,8 @@ const VERSION: &str = "pap_author 1.0.0 (rules dac8208d650f15bf)";
 
 /// The answer to `--help`.
 const HELP: &str =
-    "pap_author draws a wage tax flowchart as a page, begins its range file, compares it with the one before, and traces a run
+    "pap_author draws a wage tax flowchart as a page, begins its range file, compares it with the one before, traces a run, and finds
+one that fails
 
 usage:
   pap_author chart PLAN            write the flowchart as one page of HTML: what can be said of it without a range file, its
@@ -31,6 +32,9 @@ usage:
   pap_author trace PLAN LIMITS NAME=VALUE ..
                                    write the page of the flowchart with the run on these inputs: its inputs and outputs, and
                                    its statements in order, each with a link to it in the drawing
+  pap_author example PLAN LIMITS   where `papcalc check` refuses the flowchart for the ranges of its values: write inputs on which
+                                   a run fails and where it fails, or the parts of the ranges by which every run is safe after
+                                   all, or that neither was found
   pap_author text compare OLD NEW  write what the flowchart NEW changed against OLD: declarations with their values, and method
                                    by method the statements; each line begins with = the same, ~ changed, + new or - gone
   pap_author text trace PLAN LIMITS NAME=VALUE ..
@@ -47,10 +51,12 @@ helps. `chart` writes the page all the same, with the reason in it; that of a fi
 drawing. `ranges` doesn't judge the flowchart: only of a file that can't be read as one the line of its refusal is written,
 in place of the range file. `compare` doesn't judge its flowcharts either: the line of the first file that can't be read as
 one is written in place of the text. `trace` fills inputs that aren't given as `papcalc once` does. Of a refused plan or a run
-without inputs its page says why, and its text has the line that `papcalc once` writes.
+without inputs its page says why, and its text has the line that `papcalc once` writes. Of a flowchart or a range file that is
+refused for another reason than the ranges of its values, `example` writes the line that `papcalc check` writes.
 
-It ends with 0 where all was written, 1 where that is of a refused plan, of a run without inputs or of two flowcharts that
-differ, 2 where the words are none of these, 3 where a file can't be read, 5 where the output can't be written, 6 where memory runs out.";
+It ends with 0 where all was written, 1 where that is of a refused plan, of a run without inputs, of two flowcharts that
+differ, or of inputs that fail or weren't found, 2 where the words are none of these, 3 where a file can't be read, 5 where
+the output can't be written, 6 where memory runs out.";
 
 /// The words after the program's name.
 fn words_of(rt: &HostRuntime) -> io::Result<Vec<String>> {
