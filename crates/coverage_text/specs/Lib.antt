@@ -1,0 +1,3 @@
+pub mod CoverageItems
+pub mod CoverageTexts
+pub mod private
