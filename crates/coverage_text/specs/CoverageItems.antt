@@ -20,8 +20,8 @@ pub record CoveredMethod : Type 0 where
 -- ---- counts
 
 -- the item is a statement to which a run may come
-abbrev pub is_statement : CoverageItem → Bool
-is_statement i = i.is_reachable && not i.is_exit
+abbrev pub is_reachable_statement : CoverageItem → Bool
+is_reachable_statement i = i.is_reachable && not i.is_exit
 
 -- the item is an exit that a run may take
 abbrev pub is_exit : CoverageItem → Bool
@@ -39,8 +39,8 @@ is_unreachable i = not i.is_reachable
 -- none may come
 abbrev pub item_counts : List CoverageItem → CoverageCounts
 item_counts items = record {
-  covered_statements = count_by (λ i. is_statement i && is_covered i) items;
-  statements = count_by is_statement items;
+  covered_statements = count_by (λ i. is_reachable_statement i && is_covered i) items;
+  statements = count_by is_reachable_statement items;
   covered_exits = count_by (λ i. is_exit i && is_covered i) items;
   exits = count_by is_exit items;
   unreachable = count_by is_unreachable items;

@@ -1,5 +1,5 @@
 -- How much of a flowchart runs came to, as a text.
-use Rattle.std.specs.Prelude.{ℕ, ◌==◌, Bool, not, if◌then◌else◌, List, [], ◌++◌, codes}
+use Rattle.std.specs.Prelude.{ℕ, ◌==◌, not, if◌then◌else◌, List, [], ◌++◌, codes}
 use Rattle.std.specs.List.{flat_map}
 use Rattle.std.specs.Fmt.{decimal as number}
 use Rattle.coverage_text.specs.declared.counts.CoverageCounts.{CoverageCounts}
@@ -30,18 +30,18 @@ abbrev pub method_line : CoveredMethod → List ℕ
 method_line m = codes "method " ++ (m.name ++ (codes "  " ++ (count_words (item_counts m.items) ++ codes "\n")))
 
 -- the line of an item to which no run may come, or none came; nothing of the others
-abbrev pub item_line : CoverageItem → List ℕ
-item_line i =
+abbrev pub missed_line : CoverageItem → List ℕ
+missed_line i =
     if not i.is_reachable then codes "unreachable " ++ (i.words ++ codes "\n")
     else if i.runs == 0 then codes "never " ++ (i.words ++ codes "\n")
     else []
 
 -- such lines of a method
-abbrev pub item_lines : CoveredMethod → List ℕ
-item_lines m = flat_map item_line m.items
+abbrev pub missed_lines : CoveredMethod → List ℕ
+missed_lines m = flat_map missed_line m.items
 
 -- the totals, the counts of each method, and a line for each item that is missed
 abbrev pub coverage_text : List CoveredMethod → (without runs : ℕ) → List ℕ
 coverage_text methods without runs =
     total_lines (method_counts methods)
-    ++ (open_runs_line without runs ++ (flat_map method_line methods ++ flat_map item_lines methods))
+    ++ (open_runs_line without runs ++ (flat_map method_line methods ++ flat_map missed_lines methods))

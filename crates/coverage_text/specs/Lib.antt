@@ -1,3 +1,4 @@
 pub mod CoverageItems
 pub mod CoverageTexts
+pub mod FlowchartItems
 pub mod private

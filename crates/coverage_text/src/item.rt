@@ -1,6 +1,6 @@
 //! What runs can come to in a flowchart.
 ghost use Rattle.std.specs.Prelude.{◌≡◌, ◌&&◌};
-ghost use Rattle.coverage_text.specs.CoverageItems.{is_covered, is_exit, is_statement, is_unreachable};
+ghost use Rattle.coverage_text.specs.CoverageItems.{is_covered, is_exit, is_reachable_statement, is_unreachable};
 
 use pap_tree::Name;
 use std::marker::Model;
@@ -34,7 +34,7 @@ impl Model for Item {
 impl Item {
     /// Whether it is a statement to which a run may come.
     pub fn is_statement(&self) -> bool
-        ensures { result ≡ is_statement self.now }
+        ensures { result ≡ is_reachable_statement self.now }
     {
         self.is_reachable && !self.is_exit
     }
@@ -48,7 +48,7 @@ impl Item {
 
     /// Whether it is a statement to which a run came.
     pub fn is_covered_statement(&self) -> bool
-        ensures { result ≡ (is_statement self.now && is_covered self.now) }
+        ensures { result ≡ (is_reachable_statement self.now && is_covered self.now) }
     {
         self.is_statement() && self.runs > 0
     }

@@ -3,8 +3,12 @@
 
 mod counts;
 mod item;
+mod items;
+mod sites;
 mod text;
 
 pub use counts::{CoverageCounts, share_reached};
 pub use item::MethodItems;
+pub use items::flowchart_items;
+pub use sites::Known;
 pub use text::coverage_text;

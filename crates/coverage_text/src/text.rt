@@ -2,7 +2,7 @@
 ghost use Rattle.std.specs.Prelude.{◌≡◌, ◌++◌, IfOk, OnOk, string_bytes};
 ghost use Rattle.std.specs.List.{flat_map};
 ghost use Rattle.coverage_text.specs.private.Shares.{AreWithin};
-ghost use Rattle.coverage_text.specs.CoverageTexts.{count_words, share_lines, total_lines, open_runs_line, method_line, item_line, item_lines, coverage_text};
+ghost use Rattle.coverage_text.specs.CoverageTexts.{count_words, share_lines, total_lines, open_runs_line, method_line, missed_line, missed_lines, coverage_text};
 
 use crate::counts::{CoverageCounts, count_methods, share_of};
 use crate::item::{Item, MethodItems};
@@ -28,11 +28,7 @@ pub fn coverage_text(
 }
 
 /// Appends the totals.
-fn write_totals(
-    alloc: Global,
-    out: &mut Vec<u8>,
-    counts: CoverageCounts,
-) -> Result<(), AllocError>
+fn write_totals(alloc: Global, out: &mut Vec<u8>, counts: CoverageCounts) -> Result<(), AllocError>
     requires { AreWithin counts }
     ensures { OnOk result (out.new.items ≡ out.old.items ++ total_lines counts) }
 {
@@ -68,7 +64,9 @@ fn count_words(alloc: Global, counts: CoverageCounts) -> Result<String, AllocErr
         exits,
         ..
     } = counts;
-    format!(in alloc; "{covered_statements} of {statements} statements, {covered_exits} of {exits} exits")
+    format!(in alloc;
+        "{covered_statements} of {statements} statements, {covered_exits} of {exits} exits"
+    )
 }
 
 /// Appends how many runs have no amounts.
@@ -99,11 +97,7 @@ fn write_methods(
 }
 
 /// Appends the counts of a method.
-fn write_method(
-    alloc: Global,
-    out: &mut Vec<u8>,
-    method: &MethodItems,
-) -> Result<(), AllocError>
+fn write_method(alloc: Global, out: &mut Vec<u8>, method: &MethodItems) -> Result<(), AllocError>
     ensures { OnOk result (out.new.items ≡ out.old.items ++ method_line method.now) }
 {
     let name = method.name;
@@ -114,7 +108,7 @@ fn write_method(
 
 /// Appends a line for each item that is missed.
 fn write_missed(out: &mut Vec<u8>, methods: &[MethodItems]) -> Result<(), AllocError>
-    ensures { OnOk result (out.new.items ≡ out.old.items ++ flat_map item_lines methods.now) }
+    ensures { OnOk result (out.new.items ≡ out.old.items ++ flat_map missed_lines methods.now) }
 {
     for method in methods {
         write_items(out, &method.items)?;
@@ -124,7 +118,7 @@ fn write_missed(out: &mut Vec<u8>, methods: &[MethodItems]) -> Result<(), AllocE
 
 /// Appends a line for each of some items that is missed.
 fn write_items(out: &mut Vec<u8>, items: &[Item]) -> Result<(), AllocError>
-    ensures { OnOk result (out.new.items ≡ out.old.items ++ flat_map item_line items.now) }
+    ensures { OnOk result (out.new.items ≡ out.old.items ++ flat_map missed_line items.now) }
 {
     for item in items {
         write_item(out, item)?;
@@ -134,7 +128,7 @@ fn write_items(out: &mut Vec<u8>, items: &[Item]) -> Result<(), AllocError>
 
 /// Appends the line of an item, where it is missed.
 fn write_item(out: &mut Vec<u8>, item: &Item) -> Result<(), AllocError>
-    ensures { OnOk result (out.new.items ≡ out.old.items ++ item_line item.now) }
+    ensures { OnOk result (out.new.items ≡ out.old.items ++ missed_line item.now) }
 {
     if !item.is_reachable {
         out.extend_from_slice(b"unreachable ")?;
