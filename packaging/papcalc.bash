@@ -34,12 +34,12 @@ _pap_author() {
     local word=${COMP_WORDS[COMP_CWORD]} command=${COMP_WORDS[1]}
     COMPREPLY=()
     if [ "$COMP_CWORD" -eq 1 ]; then
-        COMPREPLY=($(compgen -W 'chart ranges trace example text --help --version' -- "$word"))
+        COMPREPLY=($(compgen -W 'chart ranges trace example lint text --help --version' -- "$word"))
         return
     fi
     case $command:$COMP_CWORD in
-        chart:2 | ranges:2 | trace:2 | example:2) _papcalc_files xml "$word" ;;
-        chart:3 | trace:3 | example:3) _papcalc_files toml "$word" ;;
+        chart:2 | ranges:2 | trace:2 | example:2 | lint:2) _papcalc_files xml "$word" ;;
+        chart:3 | trace:3 | example:3 | lint:3) _papcalc_files toml "$word" ;;
         trace:*) _papcalc_inputs "${COMP_WORDS[2]}" "$word" ;;
         text:2) COMPREPLY=($(compgen -W 'compare trace' -- "$word")) ;;
         text:3) _papcalc_files xml "$word" ;;

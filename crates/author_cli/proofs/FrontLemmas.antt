@@ -22,10 +22,11 @@ use Rattle.flowchart_methods.specs.declared.site.Site.{Site}
 use Rattle.flowchart_page.specs.Findings.{Finding, accepted, in_order, refused, IsFound}
 use Rattle.flowchart_page.specs.Runs.{RunParts}
 use Rattle.flowchart_page.specs.Pages.{AreLimits, IsPlanTable, AreTreeTexts, ArePlanTexts, Says, Shows, IsRunPage, IsPage}
-use Rattle.author_cli.specs.Words.{chart, chart_within, ranges, compared, traced, drawn, example}
+use Rattle.author_cli.specs.Words.{chart, chart_within, ranges, compared, traced, drawn, example, linted}
 use Rattle.author_cli.specs.Compared.{IsUnreadable, IsCompared}
 use Rattle.author_cli.specs.Drawn.{IsDrawnRun, IsDrawnBlocked, IsDrawnRefused, IsDrawn}
 use Rattle.author_cli.specs.Examples.{TellsSearch, IsUnsearched, IsExample}
+use Rattle.author_cli.specs.Linted.{TellsFindings, IsLinted}
 use Rattle.author_cli.specs.Traced.{IsToldRun, IsBlockedRun, IsRefusedAs, IsTraced}
 use Rattle.payroll_records.specs.declared.values.NamedValue.{NamedValue}
 use Rattle.author_cli.specs.private.TwoFronts.{AreTwoFronts}
@@ -356,6 +357,21 @@ module _ (n m : ℕ) (more_plan : 1048576 < n) (more_limits : 262144 < m) where
   example_front plan limits text reason (inl h) = inl (search_front plan.bytes limits.bytes text reason h)
   example_front plan limits text reason (inr h) = inr (unsearched_front plan limits text reason h)
 
+  -- ---- findings
+
+  findings_front : (plan : NamedText) (limits text : List ℕ) (reason : Option (List ℕ))
+      → TellsFindings (front n plan) (take m limits) text reason → TellsFindings plan limits text reason
+  findings_front plan limits text reason h =
+      let named = h.bound.suited.named in
+      subst (λ b. TellsFindings plan b text reason) (whole 262144 m limits more_limits named.file.file.1.short)
+      (subst (λ b. TellsFindings (record { name = plan.name; bytes = b }) (take m limits) text reason)
+      (whole 1048576 n plan.bytes more_plan named.file.ordered.typed.text.read.short) h)
+
+  linted_front : (plan limits : NamedText) (text : List ℕ) (reason : Option (List ℕ))
+      → IsLinted (front n plan) (front m limits) text reason → IsLinted plan limits text reason
+  linted_front plan limits text reason (inl h) = inl (findings_front plan limits.bytes text reason h)
+  linted_front plan limits text reason (inr h) = inr (h.0, refusal_front h.0 plan limits text reason h.1)
+
   -- ---- the page of a run
 
   drawn_run_front : (values : List NamedValue) (plan limits text : List ℕ) (reason : Option (List ℕ))
@@ -505,4 +521,20 @@ example_of files plan limits bytes bytes' a read h =
           (subst (λ b. IsExample (file_of plan b) (file_of limits (take 262145 read.limits_bytes)) a.text a.reason)
           read.plan_read
           (subst (λ b. IsExample (file_of plan bytes) (file_of limits b) a.text a.reason) read.limits_read h));
+    }
+
+pub linted_of : (files : FileMap) (plan limits bytes bytes' : List ℕ) (a : Answer)
+    → AreFronts files plan limits bytes bytes' → IsLinted (file_of plan bytes) (file_of limits bytes') a.text a.reason
+    → Answers (linted plan limits) files a
+linted_of files plan limits bytes bytes' a read h =
+    record {
+      plan_bytes = read.plan_bytes;
+      limits_bytes = read.limits_bytes;
+      plan_there = read.plan_there;
+      limits_there = read.limits_there;
+      is = linted_front 1048577 262145 (omega arith) (omega arith)
+          (file_of plan read.plan_bytes) (file_of limits read.limits_bytes) a.text a.reason
+          (subst (λ b. IsLinted (file_of plan b) (file_of limits (take 262145 read.limits_bytes)) a.text a.reason)
+          read.plan_read
+          (subst (λ b. IsLinted (file_of plan bytes) (file_of limits b) a.text a.reason) read.limits_read h));
     }

@@ -8,3 +8,4 @@ mod DraftLemmas
 mod TracedLemmas
 mod DrawnLemmas
 mod ExampleLemmas
+mod LintLemmas

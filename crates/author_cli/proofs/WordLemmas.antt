@@ -7,7 +7,7 @@ use Rattle.std.proofs.Math.Seq.{drop-cons}
 use Rattle.payroll_records.specs.ValueWords.{AreValueWords}
 use Rattle.payroll_records.specs.declared.values.NamedValue.{NamedValue}
 use Rattle.payroll_records.proofs.Laws.{values_once}
-use Rattle.author_cli.specs.Words.{texts, Form, chart, chart_within, ranges, compared, traced, drawn, example, HasForm, IsBad}
+use Rattle.author_cli.specs.Words.{texts, Form, chart, chart_within, ranges, compared, traced, drawn, example, linted, HasForm, IsBad}
 use Rattle.author_cli.specs.private.WordViews.{text_words}
 
 two_three : (a b c d e : List ℕ) → a ∷ b ∷ [] ≡ c ∷ d ∷ e ∷ [] → ⊥
@@ -24,6 +24,15 @@ chart_ranges e = cc
 
 chart_example : codes "chart" ≡ codes "example" → ⊥
 chart_example e = cc
+
+chart_lint : codes "chart" ≡ codes "lint" → ⊥
+chart_lint e = cc
+
+example_lint : codes "example" ≡ codes "lint" → ⊥
+example_lint e = cc
+
+lint_trace : codes "lint" ≡ codes "trace" → ⊥
+lint_trace e = cc
 
 example_trace : codes "example" ≡ codes "trace" → ⊥
 example_trace e = cc
@@ -136,6 +145,29 @@ one_form words (drawn q l vs) (example p m) h k =
     absurd (example_trace (first words _ _ (p ∷ m ∷ []) (q ∷ l ∷ h.rest) k h.words_are))
 one_form words (example p m) (drawn q l vs) h k =
     absurd (example_trace (first words _ _ (p ∷ m ∷ []) (q ∷ l ∷ k.rest) h k.words_are))
+one_form words (chart p) (linted q l) h k = absurd (two_three _ p _ q l (sym h ∙ k))
+one_form words (chart_within p m) (linted q l) h k =
+    absurd (chart_lint (first words _ _ (p ∷ m ∷ []) (q ∷ l ∷ []) h k))
+one_form words (ranges p) (linted q l) h k = absurd (two_three _ p _ q l (sym h ∙ k))
+one_form words (compared o n) (linted q l) h k = absurd (three_more _ q l _ _ o n [] (sym k ∙ h))
+one_form words (traced p m vs) (linted q l) h k = absurd (three_more _ q l _ _ p m h.rest (sym k ∙ h.words_are))
+one_form words (linted q l) (chart p) h k = absurd (two_three _ p _ q l (sym k ∙ h))
+one_form words (linted q l) (chart_within p m) h k =
+    absurd (chart_lint (first words _ _ (p ∷ m ∷ []) (q ∷ l ∷ []) k h))
+one_form words (linted q l) (ranges p) h k = absurd (two_three _ p _ q l (sym k ∙ h))
+one_form words (linted q l) (compared o n) h k = absurd (three_more _ q l _ _ o n [] (sym h ∙ k))
+one_form words (linted q l) (traced p m vs) h k = absurd (three_more _ q l _ _ p m k.rest (sym h ∙ k.words_are))
+one_form words (linted p l) (linted q m) h k =
+    ap (λ x. linted x l) (second words _ p _ q (l ∷ []) (m ∷ []) h k)
+    ∙ ap (λ x. linted q x) (third words _ p l _ q m h k)
+one_form words (drawn q l vs) (linted p m) h k =
+    absurd (lint_trace (first words _ _ (p ∷ m ∷ []) (q ∷ l ∷ h.rest) k h.words_are))
+one_form words (linted p m) (drawn q l vs) h k =
+    absurd (lint_trace (first words _ _ (p ∷ m ∷ []) (q ∷ l ∷ k.rest) h k.words_are))
+one_form words (example q l) (linted p m) h k =
+    absurd (example_lint (first words _ _ (q ∷ l ∷ []) (p ∷ m ∷ []) h k))
+one_form words (linted p m) (example q l) h k =
+    absurd (example_lint (first words _ _ (q ∷ l ∷ []) (p ∷ m ∷ []) k h))
 
 -- ---- no form
 
@@ -149,17 +181,20 @@ no_two command plan no_chart no_ranges (compared o n) h = two_more _ plan _ _ o 
 no_two command plan no_chart no_ranges (traced p l vs) h = two_more _ plan _ _ p l h.rest h.words_are
 no_two command plan no_chart no_ranges (drawn p l vs) h = two_rest _ plan _ p l h.rest h.words_are
 no_two command plan no_chart no_ranges (example p l) h = two_three _ plan _ p l h
+no_two command plan no_chart no_ranges (linted p l) h = two_three _ plan _ p l h
 
 -- a command and two names
 pub no_three : (command plan limits : List ℕ) → ¬ (command ≡ codes "chart") → ¬ (command ≡ codes "trace") → ¬ (command ≡ codes "example")
+    → ¬ (command ≡ codes "lint")
     → IsBad (command ∷ plan ∷ limits ∷ [])
-no_three command plan limits no_chart no_trace no_example (chart p) h = two_three _ p _ plan limits (sym h)
-no_three command plan limits no_chart no_trace no_example (chart_within p l) h = no_chart (ap (λ w. get_or w 0 []) h)
-no_three command plan limits no_chart no_trace no_example (ranges p) h = two_three _ p _ plan limits (sym h)
-no_three command plan limits no_chart no_trace no_example (compared o n) h = three_more _ plan limits _ _ o n [] h
-no_three command plan limits no_chart no_trace no_example (traced p l vs) h = three_more _ plan limits _ _ p l h.rest h.words_are
-no_three command plan limits no_chart no_trace no_example (drawn p l vs) h = no_trace (ap (λ w. get_or w 0 []) h.words_are)
-no_three command plan limits no_chart no_trace no_example (example p l) h = no_example (ap (λ w. get_or w 0 []) h)
+no_three command plan limits no_chart no_trace no_example no_lint (chart p) h = two_three _ p _ plan limits (sym h)
+no_three command plan limits no_chart no_trace no_example no_lint (chart_within p l) h = no_chart (ap (λ w. get_or w 0 []) h)
+no_three command plan limits no_chart no_trace no_example no_lint (ranges p) h = two_three _ p _ plan limits (sym h)
+no_three command plan limits no_chart no_trace no_example no_lint (compared o n) h = three_more _ plan limits _ _ o n [] h
+no_three command plan limits no_chart no_trace no_example no_lint (traced p l vs) h = three_more _ plan limits _ _ p l h.rest h.words_are
+no_three command plan limits no_chart no_trace no_example no_lint (drawn p l vs) h = no_trace (ap (λ w. get_or w 0 []) h.words_are)
+no_three command plan limits no_chart no_trace no_example no_lint (example p l) h = no_example (ap (λ w. get_or w 0 []) h)
+no_three command plan limits no_chart no_trace no_example no_lint (linted p l) h = no_lint (ap (λ w. get_or w 0 []) h)
 
 -- a form, a command, two names and some words
 pub no_more : (form command first second : List ℕ) (rest : List (List ℕ))
@@ -177,6 +212,8 @@ no_more form command first second rest no_compare no_trace no_drawn (drawn p l v
     no_drawn (ap (λ w. get_or w 0 []) h.words_are)
 no_more form command first second rest no_compare no_trace no_drawn (example p l) h =
     three_more _ p l _ _ first second rest (sym h)
+no_more form command first second rest no_compare no_trace no_drawn (linted p l) h =
+    three_more _ p l _ _ first second rest (sym h)
 
 -- `text compare` and more than two names
 pub no_compared : (old new : List ℕ) (rest : List (List ℕ)) → ¬ (length rest ≡ 0)
@@ -188,6 +225,7 @@ no_compared old new rest more (compared o n) h = more (ap (λ w. length (drop 4 
 no_compared old new rest more (traced p l vs) h = compare_trace (ap (λ w. get_or w 1 []) h.words_are)
 no_compared old new rest more (drawn p l vs) h = text_trace (ap (λ w. get_or w 0 []) h.words_are)
 no_compared old new rest more (example p l) h = three_more _ p l _ _ old new rest (sym h)
+no_compared old new rest more (linted p l) h = three_more _ p l _ _ old new rest (sym h)
 
 -- `text trace` and words that give no values
 pub no_traced : (plan limits : List ℕ) (rest : List (List ℕ)) → ((values : List NamedValue) → ¬ (AreValueWords rest values))
@@ -200,6 +238,7 @@ no_traced plan limits rest none (traced p l vs) h =
     none vs (subst (λ r. AreValueWords r vs) (sym (ap (λ w. drop 4 w) h.words_are)) h.values_are)
 no_traced plan limits rest none (drawn p l vs) h = text_trace (ap (λ w. get_or w 0 []) h.words_are)
 no_traced plan limits rest none (example p l) h = three_more _ p l _ _ plan limits rest (sym h)
+no_traced plan limits rest none (linted p l) h = three_more _ p l _ _ plan limits rest (sym h)
 
 -- `trace` and words that give no values
 pub no_drawn : (plan limits : List ℕ) (rest : List (List ℕ)) → ((values : List NamedValue) → ¬ (AreValueWords rest values))
@@ -212,6 +251,7 @@ no_drawn plan limits rest none (traced p l vs) h = text_trace (sym (ap (λ w. ge
 no_drawn plan limits rest none (drawn p l vs) h =
     none vs (subst (λ r. AreValueWords r vs) (sym (ap (λ w. drop 3 w) h.words_are)) h.values_are)
 no_drawn plan limits rest none (example p l) h = example_trace (sym (ap (λ w. get_or w 0 []) h))
+no_drawn plan limits rest none (linted p l) h = lint_trace (sym (ap (λ w. get_or w 0 []) h))
 
 as_many : (words : List (String Global)) (list : List (List ℕ)) → texts words ≡ list → length words ≡ length list
 as_many words list e = sym (length-map words (λ w. string_bytes w)) ∙ ap (λ w. length w) e
@@ -225,6 +265,7 @@ no_other words two few (compared o n) h = let l = as_many words _ h in omega (ar
 no_other words two few (traced p l vs) h = let l = as_many words _ h.words_are in omega (arith, l, few)
 no_other words two few (drawn p l vs) h = let l = as_many words _ h.words_are in omega (arith, l, few)
 no_other words two few (example p l) h = let l = as_many words _ h in omega (arith, l, few)
+no_other words two few (linted p l) h = let l = as_many words _ h in omega (arith, l, few)
 
 -- ---- all words
 

@@ -6,7 +6,7 @@ use Rattle.outside.specs.Causes.{Still}
 use Rattle.outside.specs.Told.{FileMap, Appends, AppendsShort}
 use Rattle.plan_answers.specs.Fronts.{IsMissing}
 use Rattle.author_cli.specs.declared.stop.Stop.TheVariants as stops
-use Rattle.author_cli.specs.Words.{Form, chart, chart_within, ranges, compared, traced, drawn, example}
+use Rattle.author_cli.specs.Words.{Form, chart, chart_within, ranges, compared, traced, drawn, example, linted}
 use Rattle.author_cli.specs.Answers.{Answer, Answers}
 use Rattle.author_cli.specs.Ends.{Ended, words_of}
 use Rattle.author_cli.specs.Outside.{Outside}
@@ -20,6 +20,7 @@ Lacks (compared old new) told failed = IsMissing told old new failed
 Lacks (traced plan limits values) told failed = IsMissing told plan limits failed
 Lacks (drawn plan limits values) told failed = IsMissing told plan limits failed
 Lacks (example plan limits) told failed = IsMissing told plan limits failed
+Lacks (linted plan limits) told failed = IsMissing told plan limits failed
 
 -- ---- what each end leaves; of the text where the files tell what they hold, of the rest always
 

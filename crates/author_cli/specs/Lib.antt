@@ -9,5 +9,6 @@ pub mod Outside
 pub mod Words
 pub mod DraftLaws
 pub mod Examples
+pub mod Linted
 pub mod Stops
 pub mod private

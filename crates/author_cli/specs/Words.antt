@@ -24,6 +24,8 @@ pub data Form : Type 0 where
   drawn : List ℕ → List ℕ → List NamedValue → Form
   -- example PLAN LIMITS
   example : List ℕ → List ℕ → Form
+  -- lint PLAN LIMITS
+  linted : List ℕ → List ℕ → Form
 
 -- the words are `text trace`, the names of two files, and value words that give these values
 pub record HasTraceForm (words : List (List ℕ)) (plan limits : List ℕ) (values : List NamedValue) : Type 0 where
@@ -46,6 +48,7 @@ HasForm words (compared old new) = words ≡ codes "text" ∷ codes "compare" �
 HasForm words (traced plan limits values) = HasTraceForm words plan limits values
 HasForm words (drawn plan limits values) = HasDrawnForm words plan limits values
 HasForm words (example plan limits) = words ≡ codes "example" ∷ plan ∷ limits ∷ []
+HasForm words (linted plan limits) = words ≡ codes "lint" ∷ plan ∷ limits ∷ []
 
 -- the words have no form
 abbrev pub IsBad : List (List ℕ) → Type 0

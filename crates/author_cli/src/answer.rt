@@ -3,7 +3,7 @@ ghost use Rattle.std.specs.Prelude.{◌≡◌, IfOk, None, option_map};
 ghost use Rattle.outside.specs.Causes.{Caused};
 ghost use Rattle.pap_reader.specs.Elements.{IsFault};
 ghost use Rattle.plain_words.specs.Places.{named_text};
-ghost use Rattle.author_cli.specs.Words.{chart, chart_within, ranges, compared, traced, drawn, example};
+ghost use Rattle.author_cli.specs.Words.{chart, chart_within, ranges, compared, traced, drawn, example, linted};
 ghost use Rattle.author_cli.specs.private.WordViews.{form_of};
 ghost use Rattle.author_cli.specs.Answers.{IsChart, IsUnread, IsRanges};
 ghost use Rattle.author_cli.specs.private.AnswerViews.{answer_of, Makes};
@@ -13,6 +13,7 @@ ghost use Rattle.author_cli.specs.CallClauses.{Leaves};
 use crate::compared::{compare_plans, read_two};
 use crate::drawn::draw_trace;
 use crate::example::seek_example;
+use crate::linted::lint_plan;
 use crate::stop::Stop;
 use crate::traced::trace_plan;
 use crate::words::Request;
@@ -27,14 +28,16 @@ use plan_notes::read_notes;
 use range_draft::draft_ranges;
 use std::alloc::{AllocError, Global};
 
-/// What is written, and why a plan is refused, that two differ, or that a run fails, where that is so.
+/// What is written, and why a plan is refused, that two differ, that a run fails, or how many findings there
+/// are, where that is so.
 #[derive(Drop)]
 pub(crate) struct Answer {
     pub text: Vec<u8>,
     pub reason: Option<String>,
 }
 
-/// Writes the answer on a request. `Ok` says why a plan is refused, that two differ, or that a run fails, where that is so.
+/// Writes the answer on a request. `Ok` says why a plan is refused, that two differ, that a run fails, or how many findings there
+/// are, where that is so.
 pub(crate) fn write_answer<F: Files, W: Sink>(
     alloc: Global,
     request: Request<'_>,
@@ -82,6 +85,7 @@ fn make_answer<F: Files>(
             values,
         } => answer_drawn(alloc, plan, limits, values, files),
         Request::Example { plan, limits } => answer_example(alloc, plan, limits, files),
+        Request::Lint { plan, limits } => answer_linted(alloc, plan, limits, files),
     }
 }
 
@@ -235,6 +239,30 @@ fn answer_example<F: Files>(
         bytes: &limits_bytes,
     };
     Ok(seek_example(alloc, plan, limits)?)
+}
+
+/// What a plan has in vain within the ranges of its inputs.
+fn answer_linted<F: Files>(
+    alloc: Global,
+    plan: &str,
+    limits: &str,
+    files: &mut F,
+) -> Result<Answer, FileAnswer>
+    ensures made { Makes (linted plan.now limits.now)
+        (F.told files.old) (F.failed files.old) (F.failed files.new) result }
+    ensures same { F.told files.new ≡ F.told files.old }
+    ensures cause { Caused FileAnswer.Failed (F.faults files.old) (F.faults files.new) result }
+{
+    let (plan_bytes, limits_bytes) = read_both(alloc, plan, limits, files)?;
+    let plan = TextFile {
+        name: plan,
+        bytes: &plan_bytes,
+    };
+    let limits = TextFile {
+        name: limits,
+        bytes: &limits_bytes,
+    };
+    Ok(lint_plan(alloc, plan, limits)?)
 }
 
 /// The page of a plan's bytes, with those of a range file or without.

@@ -6,6 +6,7 @@ mod call;
 mod compared;
 mod drawn;
 mod example;
+mod linted;
 mod stop;
 mod traced;
 mod words;

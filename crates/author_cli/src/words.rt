@@ -46,6 +46,11 @@ pub(crate) enum Request<'a> {
         plan: &'a str,
         limits: &'a str,
     },
+    /// `lint PLAN LIMITS`
+    Lint {
+        plan: &'a str,
+        limits: &'a str,
+    },
 }
 
 /// What the words ask for. `None` where they have no form.
@@ -145,6 +150,7 @@ fn read_three<'a>(command: &str, plan: &'a str, limits: &'a str) -> Option<Reque
     match command {
         "chart" => Some(Request::ChartWithin { plan, limits }),
         "example" => Some(Request::Example { plan, limits }),
+        "lint" => Some(Request::Lint { plan, limits }),
         _ => None,
     }
 }

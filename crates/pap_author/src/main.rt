@@ -11,7 +11,8 @@ use std::process::ExitCode;
 /// What is said where the words ask for nothing.
 const USAGE: &str =
     "usage: pap_author chart PLAN | pap_author chart PLAN LIMITS | pap_author ranges PLAN | \
-    pap_author trace PLAN LIMITS NAME=VALUE .. | pap_author example PLAN LIMITS | pap_author text compare OLD NEW | \
+    pap_author trace PLAN LIMITS NAME=VALUE .. | pap_author example PLAN LIMITS | pap_author lint PLAN LIMITS | \
+    pap_author text compare OLD NEW | \
     pap_author text trace PLAN LIMITS NAME=VALUE ..";
 
 /// The answer to `--version`, with the checksum of the prover's rules by which the contracts are proved.
@@ -35,6 +36,8 @@ usage:
   pap_author example PLAN LIMITS   where `papcalc check` refuses the flowchart for the ranges of its values: write inputs on which
                                    a run fails and where it fails, or the parts of the ranges by which every run is safe after
                                    all, or that neither was found
+  pap_author lint PLAN LIMITS      write a line for each thing that the flowchart has in vain: statements that no run executes, tests
+                                   that always answer the same, names that nothing reads or assigns
   pap_author text compare OLD NEW  write what the flowchart NEW changed against OLD: declarations with their values, and method
                                    by method the statements; each line begins with = the same, ~ changed, + new or - gone
   pap_author text trace PLAN LIMITS NAME=VALUE ..
@@ -52,11 +55,12 @@ drawing. `ranges` doesn't judge the flowchart: only of a file that can't be read
 in place of the range file. `compare` doesn't judge its flowcharts either: the line of the first file that can't be read as
 one is written in place of the text. `trace` fills inputs that aren't given as `papcalc once` does. Of a refused plan or a run
 without inputs its page says why, and its text has the line that `papcalc once` writes. Of a flowchart or a range file that is
-refused for another reason than the ranges of its values, `example` writes the line that `papcalc check` writes.
+refused for another reason than the ranges of its values, `example` writes the line that `papcalc check` writes. So does `lint`
+of each that is refused.
 
 It ends with 0 where all was written, 1 where that is of a refused plan, of a run without inputs, of two flowcharts that
-differ, or of inputs that fail or weren't found, 2 where the words are none of these, 3 where a file can't be read, 5 where
-the output can't be written, 6 where memory runs out.";
+differ, of inputs that fail or weren't found, or of findings, 2 where the words are none of these, 3 where a file can't be
+read, 5 where the output can't be written, 6 where memory runs out.";
 
 /// The words after the program's name.
 fn words_of(rt: &HostRuntime) -> io::Result<Vec<String>> {

@@ -1,0 +1,29 @@
+-- The answer on findings from what the calls below promise.
+use Rattle.std.proofs.Common.{◌≡◌, ◌∙◌, ap, ℕ, List}
+use Rattle.std.specs.BTreeSet.{BTreeSet}
+use Rattle.std.specs.Prelude.{Option}
+use Rattle.pap_tree.specs.Flowchart.{Flowchart}
+use Rattle.limits_file.specs.declared.limits.Limits.{Limits}
+use Rattle.interval_analysis.specs.Surveys.{StatementPlace, AreReached}
+use Rattle.plan_notes.specs.declared.notes.Notes.{Notes}
+use Rattle.plan_notes.specs.declared.tag.Mark.{Mark}
+use Rattle.plan_notes.specs.Notes.{HasNotes}
+use Rattle.flowchart_findings.specs.declared.finding.Finding.{Finding}
+use Rattle.flowchart_findings.specs.Findings.{findings_of}
+use Rattle.flowchart_findings.specs.Texts.{finding_lines}
+use Rattle.plain_words.specs.Places.{NamedText}
+use Rattle.author_cli.specs.Linted.{findings_words, IsFindingsText}
+
+-- the lines of the findings, and how many there are
+pub findings_told : (plan : NamedText) (f : Flowchart) (l : Limits) (reached : BTreeSet StatementPlace) (notes : Notes)
+    (marks : List Mark) (found : List Finding) (text : List ℕ) (reason : Option (List ℕ)) → AreReached f l reached
+    → HasNotes plan.bytes notes → marks ≡ notes.marks.items → found ≡ findings_of f reached
+    → text ≡ finding_lines plan marks found → reason ≡ findings_words found → IsFindingsText plan f l text reason
+findings_told plan f l reached notes marks found text reason are noted m e w s = record {
+  reached = reached;
+  are_reached = are;
+  notes = notes;
+  noted = noted;
+  written = w ∙ ap (λ ms. finding_lines plan ms found) m ∙ ap (λ ds. finding_lines plan notes.marks.items ds) e;
+  said = s ∙ ap (λ ds. findings_words ds) e;
+}

@@ -1,0 +1,43 @@
+-- What is written of what a plan has in vain.
+use Rattle.std.specs.Prelude.{◌≡◌, ◌⊎◌, ℕ, List, [], ◌∷◌, ◌++◌, codes, length, Option, Some, None}
+use Rattle.std.specs.BTreeSet.{BTreeSet}
+use Rattle.std.specs.Fmt.{decimal as number}
+use Rattle.pap_tree.specs.Flowchart.{Flowchart}
+use Rattle.limits_file.specs.declared.limits.Limits.{Limits}
+use Rattle.interval_analysis.specs.Surveys.{StatementPlace, AreReached}
+use Rattle.pap_plan.specs.declared.refusal.PlanRefusal.{PlanRefusal}
+use Rattle.pap_plan.specs.Acceptance.{HasBindings}
+use Rattle.plan_notes.specs.declared.notes.Notes.{Notes}
+use Rattle.plan_notes.specs.Notes.{HasNotes}
+use Rattle.plain_words.specs.Places.{NamedText}
+use Rattle.flowchart_findings.specs.declared.finding.Finding.{Finding}
+use Rattle.flowchart_findings.specs.Findings.{findings_of}
+use Rattle.flowchart_findings.specs.Texts.{finding_lines}
+use Rattle.author_cli.specs.Traced.{IsRefusedAs}
+
+-- what is said on standard error of findings: how many there are; nothing where there is none
+abbrev pub findings_words : List Finding → Option (List ℕ)
+findings_words [] = None
+findings_words (d ∷ ds) = Some (codes "findings: " ++ number (length (d ∷ ds)))
+
+-- the text has a line for each finding in this flowchart of the plan's file, within these limits, and these words are said of it
+pub record IsFindingsText (plan : NamedText) (f : Flowchart) (limits : Limits) (text : List ℕ) (reason : Option (List ℕ))
+    : Type 0 where
+  pub reached : BTreeSet StatementPlace
+  pub are_reached : AreReached f limits reached
+  pub notes : Notes
+  pub noted : HasNotes plan.bytes notes
+  pub written : text ≡ finding_lines plan notes.marks.items (findings_of f reached)
+  pub said : reason ≡ findings_words (findings_of f reached)
+
+-- the plan passes all stages of acceptance, and the text has a line for each finding in it
+pub record TellsFindings (plan : NamedText) (limits text : List ℕ) (reason : Option (List ℕ)) : Type 0 where
+  pub flowchart : Flowchart
+  pub ranges : Limits
+  pub bound : HasBindings plan.bytes limits flowchart ranges
+  pub tells : IsFindingsText plan flowchart ranges text reason
+
+-- this is the answer of `lint` on two files: what there is to tell of the plan, or why it is refused
+abbrev pub IsLinted : (plan limits : NamedText) → List ℕ → Option (List ℕ) → Type 0
+IsLinted plan limits text reason =
+    TellsFindings plan limits.bytes text reason ⊎ ((r : PlanRefusal) × IsRefusedAs r plan limits text reason)
