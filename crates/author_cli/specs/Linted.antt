@@ -30,7 +30,7 @@ pub record IsFindingsText (plan : NamedText) (f : Flowchart) (limits : Limits) (
   pub written : text ≡ finding_lines plan notes.marks.items (findings_of f reached)
   pub said : reason ≡ findings_words (findings_of f reached)
 
--- the plan passes all stages of acceptance, and the text has a line for each finding in it
+-- the plan passes the stages of acceptance before the ranges of its values are judged, and the text has a line for each finding in it
 pub record TellsFindings (plan : NamedText) (limits text : List ℕ) (reason : Option (List ℕ)) : Type 0 where
   pub flowchart : Flowchart
   pub ranges : Limits
