@@ -362,7 +362,7 @@ module _ (n m : ℕ) (more_plan : 1048576 < n) (more_limits : 262144 < m) where
   findings_front : (plan : NamedText) (limits text : List ℕ) (reason : Option (List ℕ))
       → TellsFindings (front n plan) (take m limits) text reason → TellsFindings plan limits text reason
   findings_front plan limits text reason h =
-      let named = h.bound.suited.named in
+      let named = h.accepted.bound.suited.named in
       subst (λ b. TellsFindings plan b text reason) (whole 262144 m limits more_limits named.file.file.1.short)
       (subst (λ b. TellsFindings (record { name = plan.name; bytes = b }) (take m limits) text reason)
       (whole 1048576 n plan.bytes more_plan named.file.ordered.typed.text.read.short) h)

@@ -6,7 +6,7 @@ use Rattle.pap_tree.specs.Flowchart.{Flowchart}
 use Rattle.limits_file.specs.declared.limits.Limits.{Limits}
 use Rattle.interval_analysis.specs.Surveys.{StatementPlace, AreReached}
 use Rattle.pap_plan.specs.declared.refusal.PlanRefusal.{PlanRefusal}
-use Rattle.pap_plan.specs.Acceptance.{HasBindings}
+use Rattle.pap_plan.specs.Acceptance.{Meaning, IsAccepted}
 use Rattle.plan_notes.specs.declared.notes.Notes.{Notes}
 use Rattle.plan_notes.specs.Notes.{HasNotes}
 use Rattle.plain_words.specs.Places.{NamedText}
@@ -30,12 +30,11 @@ pub record IsFindingsText (plan : NamedText) (f : Flowchart) (limits : Limits) (
   pub written : text ≡ finding_lines plan notes.marks.items (findings_of f reached)
   pub said : reason ≡ findings_words (findings_of f reached)
 
--- the plan passes the stages of acceptance before the ranges of its values are judged, and the text has a line for each finding in it
+-- the plan is accepted, and the text has a line for each finding in it
 pub record TellsFindings (plan : NamedText) (limits text : List ℕ) (reason : Option (List ℕ)) : Type 0 where
-  pub flowchart : Flowchart
-  pub ranges : Limits
-  pub bound : HasBindings plan.bytes limits flowchart ranges
-  pub tells : IsFindingsText plan flowchart ranges text reason
+  pub meaning : Meaning
+  pub accepted : IsAccepted plan.bytes limits meaning
+  pub tells : IsFindingsText plan meaning.flowchart meaning.limits text reason
 
 -- this is the answer of `lint` on two files: what there is to tell of the plan, or why it is refused
 abbrev pub IsLinted : (plan limits : NamedText) → List ℕ → Option (List ℕ) → Type 0
