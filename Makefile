@@ -66,9 +66,9 @@ deb:
 test:
 	bash .ci/run
 
-# The rows of examples/answers, on the built program.
-answers: build
-	python3 tools/answer_rows.py build/papcalc
+# The rows of examples/answers, on the built programs.
+answers: build author
+	python3 tools/answer_rows.py build/papcalc build/pap_author
 
 # Each piece of memory that the program asks for refused in turn, on small scripts and the other words (needs a C compiler).
 refused-memory: build

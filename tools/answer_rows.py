@@ -1,8 +1,9 @@
 #!/usr/bin/env python3
-"""What the built program answers and says: answer_rows.py [--write] PROGRAM [FILE ..], from the top of the repository.
+"""What the built programs answer and say: answer_rows.py [--write] PAPCALC PAP_AUTHOR [FILE ..], from the top of the repository.
 
-The files are examples/answers/*.rows; README.md beside them says how they are written. Each row is put to the program in a folder of its
-own, and standard output, standard error and the status are compared. With --write the files get what comes, for you to read in `git diff`."""
+The files are examples/answers/*.rows; README.md beside them says how they are written. Each row is put to the program that its command names
+in a folder of its own, and standard output, standard error and the status are compared. With --write the files get what comes, for you to
+read in `git diff`."""
 import concurrent.futures
 import glob
 import itertools
@@ -13,11 +14,14 @@ import sys
 import tempfile
 
 
-class Table:
-    """What rows are put to: a command and texts of files and of standard input, with places for what a row asks."""
+COMMAND = re.compile(r"\$ (papcalc|pap_author) (.*)")
 
-    def __init__(self, command, texts):
-        self.command, self.texts = command, texts
+
+class Table:
+    """What rows are put to: the words for a program, and texts of files and of standard input, with places for what a row asks."""
+
+    def __init__(self, program, words, texts):
+        self.program, self.words, self.texts = program, words, texts
 
 
 class Row:
@@ -67,8 +71,8 @@ def read_rows(text):
             last.add(line[0], line[2:])
             continue
         items.append(line)
-        if line.startswith("$ papcalc "):
-            table = Table(line[len("$ papcalc "):], dict(texts))
+        if command := COMMAND.fullmatch(line):
+            table = Table(*command.groups(), dict(texts))
         elif line.startswith("    "):
             texts[name] += line[4:] + "\n"
         elif line.endswith(":") and not line.startswith("#"):
@@ -107,17 +111,17 @@ def lines_of(written):
     return [*lines, *[rest + " (without a line end)"] * (rest != "")]
 
 
-def answered(program, row):
+def answered(programs, row):
     """The row with what comes."""
     asked = written_out("\n".join(row.asked))
     files = {name: filled(text, asked).encode() for name, text in row.table.texts.items()}
     script = files.pop("stdin", b"")
-    words, _, unseen = filled(row.table.command, asked).partition(" 2> ")
+    words, _, unseen = filled(row.table.words, asked).partition(" 2> ")
     with tempfile.TemporaryDirectory(prefix="papcalc-rows-") as folder:
         for name, text in files.items():
             with open(os.path.join(folder, name), "wb") as file:
                 file.write(text)
-        done = subprocess.run([program, *words.split()], input=script, cwd=folder, capture_output=True, timeout=300)
+        done = subprocess.run([programs[row.table.program], *words.split()], input=script, cwd=folder, capture_output=True, timeout=300)
     came = Row(row.table, row.asked)
     came.out = lines_of(done.stdout)
     came.err = [] if unseen else lines_of(done.stderr)
@@ -126,13 +130,13 @@ def answered(program, row):
     return came
 
 
-def compared(program, name, is_writing):
+def compared(programs, name, is_writing):
     """How many rows of a file have what comes, and how many not; what differs is printed, or written."""
     with open(name, encoding="utf-8") as file:
         items = read_rows(file.read())
     rows = [item for item in items if isinstance(item, Row)]
     with concurrent.futures.ThreadPoolExecutor(4) as pool:
-        came = list(pool.map(lambda row: answered(program, row), rows))
+        came = list(pool.map(lambda row: answered(programs, row), rows))
     if is_writing:
         new = iter(came)
         lines = [line for item in items for line in (next(new).lines() if isinstance(item, Row) else [item])]
@@ -147,8 +151,9 @@ def compared(program, name, is_writing):
 
 def main(words):
     is_writing = words[0] == "--write"
-    program, *names = words[is_writing:]
-    counts = [compared(os.path.abspath(program), name, is_writing) for name in names or sorted(glob.glob("examples/answers/*.rows"))]
+    papcalc, pap_author, *names = words[is_writing:]
+    programs = {"papcalc": os.path.abspath(papcalc), "pap_author": os.path.abspath(pap_author)}
+    counts = [compared(programs, name, is_writing) for name in names or sorted(glob.glob("examples/answers/*.rows"))]
     passed, failed = map(sum, zip(*counts))
     print(f"answer_rows: {passed} passed, {failed} failed")
     return 1 if failed else 0
