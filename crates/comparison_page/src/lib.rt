@@ -2,6 +2,8 @@
 #![tactic(auto)]
 
 mod lines;
+mod ranges;
 mod text;
 
+pub use ranges::write_range_changes;
 pub use text::comparison_text;
