@@ -14,7 +14,7 @@ ANSWERS = ["plan_answers", "script_steps", "script_run", "report_csv", "open_run
 # What these files say is what a program takes, the files and the script of a sample, or the markup of a page, and not a printed line.
 TAKEN = [f"crates/{file}.antt" for file in
          ["pap_cli/specs/Words", "author_cli/specs/Words", "script_run/specs/SampleFiles", "script_run/specs/Samples",
-          "run_trace/specs/RunPages", "author_cli/specs/Drawn"]]
+          "run_trace/specs/RunPages", "run_trace/specs/RunMarks", "author_cli/specs/Drawn"]]
 PRINTED = re.compile(r'codes "([^"]*)"')
 
 

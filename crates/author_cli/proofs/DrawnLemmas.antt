@@ -16,6 +16,7 @@ use Rattle.plan_notes.specs.Notes.{HasNotes}
 use Rattle.plain_words.specs.Lines.{IsOneLine}
 use Rattle.plain_words.specs.Places.{named_text}
 use Rattle.plain_words.specs.States.{SaysState}
+use Rattle.flowchart_methods.specs.Marks.{Marked}
 use Rattle.flowchart_page.specs.Findings.{IsFound}
 use Rattle.flowchart_page.specs.Judged.{finding_of, words_of, HasLine, HasPlan}
 use Rattle.flowchart_page.specs.Pages.{IsRunPage}
@@ -26,9 +27,9 @@ use Rattle.flowchart_page.specs.declared.verdict.Reason.{Reason}
 use Rattle.plain_words.specs.declared.place.TextFile.{TextFile}
 use Rattle.source_lines.specs.Lines.{FileLines, lines_of_file}
 use Rattle.run_trace.specs.RunPages.{blocked_part}
-use Rattle.run_trace.specs.ShownRuns.{ShowsRun}
+use Rattle.run_trace.specs.ShownRuns.{ShowsRun, run_pieces}
 use Rattle.author_cli.specs.declared.drawn.Judged.{Judged}
-use Rattle.author_cli.specs.Drawn.{shown_run, blocked_line, IsDrawnRefused, IsDrawn}
+use Rattle.author_cli.specs.Drawn.{shown_run, shown_part, blocked_line, IsDrawnRefused, IsDrawn}
 use Rattle.author_cli.specs.private.DrawnViews.{IsOfFiles, DrawsRun, DrawsBlocked}
 use Rattle.author_cli.proofs.TracedLemmas.{filled_of}
 
@@ -58,8 +59,8 @@ drawn_run values given j inputs found text reason h same is are r =
       given = filled_of values given plan limits j.accepted.now found (Inputs inputs) h.accepted same is are;
       notes = r.notes;
       noted = r.noted;
-      part = r.part;
-      shows = subst (λ v. ShowsRun (flowchart j.accepted.now) (lines_of_file plan r.notes.marks.items) v inputs r.part) same
+      run = r.run;
+      shows = subst (λ v. ShowsRun (flowchart j.accepted.now) (lines_of_file plan r.notes.marks.items) v inputs r.run) same
           r.shows;
       page = r.page;
       silent = r.silent;
@@ -85,20 +86,23 @@ drawn_blocked values given j state found text reason h same is are r =
       page = r.page;
     }))
 
--- a run with the lines of its file
+-- a run with the lines of its file, and with its marks
 pub draws_run : (j : Judged) (f : Flowchart) (given : List NamedValue) (inputs : List Decimal) (notes : Notes)
-    (tags : List Mark) (lines : FileLines) (part text : List ℕ) (words reason : Option (List ℕ))
+    (tags : List Mark) (lines : FileLines) (part : List ℕ) (marks shown : List (List Marked)) (text : List ℕ)
+    (words reason : Option (List ℕ))
     → HasNotes j.plan.bytes.now notes → tags ≡ notes.marks.items → lines ≡ lines_of_file j.plan.bytes.now tags
-    → ShowsRun f lines given inputs part
-    → IsRunPage (Some (shown_run part)) j.plan.bytes.now (Some j.limits.bytes.now) words text → words ≡ None → reason ≡ None
-    → DrawsRun j f given inputs text reason
-draws_run j f given inputs notes tags lines part text words reason noted same are shows page none silent = record {
+    → ShowsRun f lines given inputs (run_pieces part marks) → shown ≡ marks
+    → IsRunPage (Some (shown_run (run_pieces part shown))) j.plan.bytes.now (Some j.limits.bytes.now) words text → words ≡ None
+    → reason ≡ None → DrawsRun j f given inputs text reason
+draws_run j f given inputs notes tags lines part marks shown text words reason noted same are shows all page none silent = record {
   notes = notes;
   noted = noted;
-  part = part;
-  shows = subst (λ m. ShowsRun f (lines_of_file j.plan.bytes.now m) given inputs part) same
-      (subst (λ l. ShowsRun f l given inputs part) are shows);
-  page = subst (λ w. IsRunPage (Some (shown_run part)) j.plan.bytes.now (Some j.limits.bytes.now) w text) none page;
+  run = run_pieces part marks;
+  shows = subst (λ m. ShowsRun f (lines_of_file j.plan.bytes.now m) given inputs (run_pieces part marks)) same
+      (subst (λ l. ShowsRun f l given inputs (run_pieces part marks)) are shows);
+  page = subst (λ ms. IsRunPage (Some (shown_run (run_pieces part ms))) j.plan.bytes.now (Some j.limits.bytes.now) None text) all
+      (subst (λ w. IsRunPage (Some (shown_run (run_pieces part shown))) j.plan.bytes.now (Some j.limits.bytes.now) w text) none
+      page);
   silent = silent;
 }
 
@@ -107,7 +111,7 @@ pub draws_blocked : (j : Judged) (state : Blocked) (words line first second part
     (silent reason : Option (List ℕ)) → IsOneLine words
     → SaysState (files_with (named_text j.plan) (Some (named_text j.limits))) state words
     → line ≡ blocked_line state → first ≡ words → second ≡ line → part ≡ blocked_part first second
-    → IsRunPage (Some (shown_run part)) j.plan.bytes.now (Some j.limits.bytes.now) silent text → silent ≡ None
+    → IsRunPage (Some (shown_part part)) j.plan.bytes.now (Some j.limits.bytes.now) silent text → silent ≡ None
     → reason ≡ Some words → DrawsBlocked j state text reason
 draws_blocked j state words line first second part text silent reason one says is same same' shown page none said =
     let whole : part ≡ blocked_part words (blocked_line state) =
@@ -117,8 +121,8 @@ draws_blocked j state words line first second part text silent reason one says i
       said = said;
       line = one;
       says = says;
-      page = subst (λ p. IsRunPage (Some (shown_run p)) j.plan.bytes.now (Some j.limits.bytes.now) None text) whole
-          (subst (λ w. IsRunPage (Some (shown_run part)) j.plan.bytes.now (Some j.limits.bytes.now) w text) none page);
+      page = subst (λ p. IsRunPage (Some (shown_part p)) j.plan.bytes.now (Some j.limits.bytes.now) None text) whole
+          (subst (λ w. IsRunPage (Some (shown_part part)) j.plan.bytes.now (Some j.limits.bytes.now) w text) none page);
     }
 
 -- a plan that has a range file isn't merely in order

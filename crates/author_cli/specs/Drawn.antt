@@ -15,13 +15,17 @@ use Rattle.flowchart_page.specs.Pages.{IsPage, IsRunPage}
 use Rattle.flowchart_page.specs.Runs.{RunParts}
 use Rattle.flowchart_page.specs.Verdicts.{files_with}
 use Rattle.source_lines.specs.Lines.{lines_of_file}
-use Rattle.run_trace.specs.ShownRuns.{ShowsRun}
+use Rattle.run_trace.specs.ShownRuns.{RunPieces, ShowsRun}
 use Rattle.run_trace.specs.RunPages.{blocked_part}
 use Rattle.author_cli.specs.Traced.{filled_alone, state_detail}
 
--- what a page shows of a run by this part of it, without marks in the drawings
-abbrev pub shown_run : List ℕ → RunParts
-shown_run part = record { part = part; marks = [] }
+-- what a page shows of a run: the part of it that tells of the run, and in the drawings the marks of its statements
+abbrev pub shown_run : RunPieces → RunParts
+shown_run run = record { part = run.part; marks = run.marks }
+
+-- what a page shows of a run that there is none of, by this part of it: no marks in the drawings
+abbrev pub shown_part : List ℕ → RunParts
+shown_part part = record { part = part; marks = [] }
 
 -- the plan is accepted, and its page shows the run on these values, with the lines of the plan's file
 pub record IsDrawnRun (values : List NamedValue) (plan limits text : List ℕ) (reason : Option (List ℕ)) : Type 0 where
@@ -31,9 +35,9 @@ pub record IsDrawnRun (values : List NamedValue) (plan limits text : List ℕ) (
   pub given : filled_alone values plan limits meaning ≡ Inputs inputs
   pub notes : Notes
   pub noted : HasNotes plan notes
-  pub part : List ℕ
-  pub shows : ShowsRun meaning.flowchart (lines_of_file plan notes.marks.items) values inputs part
-  pub page : IsRunPage (Some (shown_run part)) plan (Some limits) None text
+  pub run : RunPieces
+  pub shows : ShowsRun meaning.flowchart (lines_of_file plan notes.marks.items) values inputs run
+  pub page : IsRunPage (Some (shown_run run)) plan (Some limits) None text
   pub silent : reason ≡ None
 
 -- the line that `once` has for a run without inputs
@@ -50,7 +54,7 @@ pub record IsDrawnBlocked (values : List NamedValue) (plan limits : NamedText) (
   pub said : reason ≡ Some words
   pub line : IsOneLine words
   pub says : SaysState (files_with plan (Some limits)) state words
-  pub page : IsRunPage (Some (shown_run (blocked_part words (blocked_line state)))) plan.bytes (Some limits.bytes) None text
+  pub page : IsRunPage (Some (shown_part (blocked_part words (blocked_line state)))) plan.bytes (Some limits.bytes) None text
 
 -- the page of a refused plan, with the words that say why it is refused
 pub record IsDrawnRefused (plan limits : NamedText) (text : List ℕ) (reason : Option (List ℕ)) : Type 0 where

@@ -20,7 +20,7 @@ use pay_run::filled;
 use payroll_records::Values;
 use plain_words::{TextFile, state_words};
 use plan_notes::read_notes;
-use run_trace::{blocked_part, run_part};
+use run_trace::{blocked_part, run_on_page};
 use scaled_decimal::Dec;
 use source_lines::source_lines;
 use std::alloc::{AllocError, Global};
@@ -113,12 +113,12 @@ fn draw_run(
     let Judged { plan, limits, .. } = judged;
     let notes = read_notes(alloc, plan.bytes)?;
     let lines = source_lines(alloc, plan.bytes, &notes.marks)?;
-    let part = run_part(alloc, judged.accepted, &lines, given, inputs)?;
-    let run = RunShown {
-        part: &part,
-        marks: &[],
+    let run = run_on_page(alloc, judged.accepted, &lines, given, inputs)?;
+    let shown = RunShown {
+        part: &run.part,
+        marks: &run.marks,
     };
-    let page = draw_judged(alloc, plan, Some(limits), judged.verdict, Some(run))?;
+    let page = draw_judged(alloc, plan, Some(limits), judged.verdict, Some(shown))?;
     Ok(Answer {
         text: page,
         reason: None,

@@ -1,2 +1,4 @@
-mod StepLemmas
-mod PageLemmas
+pub mod StepLemmas
+pub mod PageLemmas
+pub mod MarkLemmas
+pub mod LineLemmas

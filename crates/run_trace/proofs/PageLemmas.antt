@@ -20,10 +20,12 @@ use Rattle.pay_run.proofs.Laws.{outputs_are, cost_is}
 use Rattle.month_trace.specs.declared.step.TraceStep.{TraceStep}
 use Rattle.month_trace.specs.Traces.{trace_of}
 use Rattle.source_lines.specs.Lines.{FileLines}
+use Rattle.flowchart_methods.specs.Marks.{Marked}
 use Rattle.run_trace.specs.VariableValues.{begin_values}
 use Rattle.run_trace.specs.StepLines.{StepPlace, values_behind}
-use Rattle.run_trace.specs.ShownRuns.{ShowsRun}
+use Rattle.run_trace.specs.ShownRuns.{ShowsRun, run_pieces}
 use Rattle.run_trace.specs.RunPages.{EntryWords, entry_text, input_row, input_rows, input_table, output_row, output_table, cost_sentence, part_start, part_head, part_list, numbered_entry, numbered_entries}
+use Rattle.run_trace.specs.RunMarks.{executions_from, marks_with, marks_of_run}
 use Rattle.run_trace.specs.private.PageViews.{AddsTables, AddsList}
 use Rattle.run_trace.proofs.StepLemmas.{from_item}
 
@@ -125,25 +127,31 @@ tables_added p given inputs f ds bound outs out0 out1 out2 out3 out4 has declare
       added = tables ∙ ap (λ l. l ++ (ins ++ (os ++ last))) start ∙ append_assoc out0 part_start (ins ++ (os ++ last));
     }
 
--- the list of a run's statements, by what the calls below promise
-pub list_added : (p : Seen) (f : Flowchart) (lines : FileLines) (inputs values : List Decimal) (steps steps' : List TraceStep)
-    (before after : List ℕ) → f ≡ flowchart p → trace_of (flowchart p) inputs ≡ Some steps → steps' ≡ steps
-    → values ≡ begin_values f inputs → after ≡ before ++ part_list f lines values steps'
-    → AddsList (flowchart p) lines inputs before after
-list_added p f lines inputs values steps steps' before after of traced same begun added = record {
+-- the list of a run's statements and its marks, by what the calls below promise
+pub list_added : (p : Seen) (f : Flowchart) (lines : FileLines) (inputs values again : List Decimal)
+    (steps steps' steps'' : List TraceStep) (before after : List ℕ) (marks : List (List Marked)) → f ≡ flowchart p
+    → trace_of (flowchart p) inputs ≡ Some steps → steps' ≡ steps → steps'' ≡ steps → values ≡ begin_values f inputs
+    → again ≡ begin_values f inputs → after ≡ before ++ part_list f lines values steps'
+    → marks ≡ marks_with f (executions_from f 1 again steps'')
+    → AddsList (flowchart p) lines inputs before after marks
+list_added p f lines inputs values again steps steps' steps'' before after marks of traced same same' begun begun' added marked = record {
   steps = steps;
   traced = traced;
   added =
       added ∙ ap (λ v. before ++ part_list f lines v steps') begun
       ∙ ap (λ l. before ++ part_list f lines (begin_values f inputs) l) same
       ∙ ap (λ g. before ++ part_list g lines (begin_values g inputs) steps) of;
+  marked =
+      marked ∙ ap (λ v. marks_with f (executions_from f 1 v steps'')) begun'
+      ∙ ap (λ l. marks_with f (executions_from f 1 (begin_values f inputs) l)) same'
+      ∙ ap (λ g. marks_of_run g inputs steps) of;
 }
 
 -- the whole part
-pub run_shown : (f : Flowchart) (lines : FileLines) (given : List NamedValue) (inputs : List Decimal) (none head whole : List ℕ)
-    → none ≡ [] → AddsTables f given inputs none head → AddsList f lines inputs head whole
-    → ShowsRun f lines given inputs whole
-run_shown f lines given inputs none head whole is tables list = record {
+pub run_shown : (f : Flowchart) (lines : FileLines) (given : List NamedValue) (inputs : List Decimal)
+    (none head whole : List ℕ) (marks : List (List Marked)) → none ≡ [] → AddsTables f given inputs none head
+    → AddsList f lines inputs head whole marks → ShowsRun f lines given inputs (run_pieces whole marks)
+run_shown f lines given inputs none head whole marks is tables list = record {
   outputs = tables.outputs;
   ran = tables.ran;
   steps = list.steps;
@@ -151,4 +159,5 @@ run_shown f lines given inputs none head whole is tables list = record {
   shown = list.added
       ∙ ap (λ l. l ++ part_list f lines (begin_values f inputs) list.steps)
       (tables.added ∙ ap (λ l. l ++ part_head f given inputs tables.outputs) is);
+  marked = list.marked;
 }

@@ -11,7 +11,7 @@ use Rattle.payroll_records.specs.declared.values.NamedValue.{NamedValue}
 use Rattle.month_trace.specs.declared.step.TraceStep.{TraceStep}
 use Rattle.source_lines.specs.Lines.{FileLines}
 use Rattle.run_trace.specs.VariableValues.{variable_value}
-use Rattle.run_trace.specs.StepLines.{operand_text, more_operands, traced_line, traced_lines, values_behind}
+use Rattle.run_trace.specs.StepLines.{Brackets, operand_text, more_operands, traced_line, traced_lines, values_behind}
 use Rattle.run_trace.specs.RunTexts.{input_line, input_lines, output_line, cost_line}
 use Rattle.run_trace.specs.private.TextViews.{AddsHead}
 use Rattle.std.specs.List.{All, flat_map}
@@ -49,19 +49,19 @@ all_steps f lines values rest out whole none so_far =
 
 -- ---- operands
 
-pub one_operand : (f : Flowchart) (values : List Decimal) (is_open is_open' : Bool) (xs : List (List ℕ)) (i : ℕ) (x : List ℕ)
-    (out out' whole : List ℕ) → x ≡ get_or xs i x → i < length xs
-    → out ++ more_operands f values is_open (drop i xs) ≡ whole
-    → out' ≡ out ++ operand_text x is_open (variable_value f values x)
+pub one_operand : (f : Flowchart) (values : List Decimal) (b : Brackets) (is_open is_open' : Bool) (xs : List (List ℕ)) (i : ℕ)
+    (x : List ℕ) (out out' whole : List ℕ) → x ≡ get_or xs i x → i < length xs
+    → out ++ more_operands f values b is_open (drop i xs) ≡ whole
+    → out' ≡ out ++ operand_text b.opening x is_open (variable_value f values x)
     → is_open' ≡ (is_open || is_some (variable_value f values x))
-    → out' ++ more_operands f values is_open' (drop (i + 1) xs) ≡ whole
-one_operand f values is_open is_open' xs i x out out' whole is lt so_far added opened =
+    → out' ++ more_operands f values b is_open' (drop (i + 1) xs) ≡ whole
+one_operand f values b is_open is_open' xs i x out out' whole is lt so_far added opened =
     let rest = drop (i + 1) xs in
-    let text = operand_text x is_open (variable_value f values x) in
-    ap (λ l. l ++ more_operands f values is_open' rest) added
-    ∙ append_assoc out text (more_operands f values is_open' rest)
-    ∙ ap (λ b. out ++ (text ++ more_operands f values b rest)) opened
-    ∙ ap (λ l. out ++ more_operands f values is_open l) (sym (from_item xs i x is lt))
+    let text = operand_text b.opening x is_open (variable_value f values x) in
+    ap (λ l. l ++ more_operands f values b is_open' rest) added
+    ∙ append_assoc out text (more_operands f values b is_open' rest)
+    ∙ ap (λ o. out ++ (text ++ more_operands f values b o rest)) opened
+    ∙ ap (λ l. out ++ more_operands f values b is_open l) (sym (from_item xs i x is lt))
     ∙ so_far
 
 -- ---- inputs

@@ -1,5 +1,5 @@
 -- A run as a part of a page: its inputs and outputs as tables, how many steps it took, and its statements in order.
-use Rattle.std.specs.Prelude.{ℕ, ◌+◌, ◌-◌, ◌||◌, ◌==◌, Bool, nat_le, nat_lt, if◌then◌else◌, List, [], ◌∷◌, ◌++◌, length, codes, Option, Some, None}
+use Rattle.std.specs.Prelude.{ℕ, ◌+◌, ◌-◌, ◌||◌, ◌==◌, Bool, true, false, nat_le, nat_lt, if◌then◌else◌, List, [], ◌∷◌, ◌++◌, length, codes, Option, Some, None}
 use Rattle.std.specs.List.{flat_map}
 use Rattle.std.specs.Fmt.{decimal as number}
 use Rattle.scaled_decimal.specs.Decimals.{Decimal}
@@ -15,7 +15,7 @@ use Rattle.statement_list.specs.Statements.{Listed}
 use Rattle.source_lines.specs.Lines.{FileLines}
 use Rattle.flowchart_markup.specs.Escapes.{escaped}
 use Rattle.flowchart_markup.specs.Fragments.{template_text}
-use Rattle.run_trace.specs.StepLines.{StepPlace, step_place, listed_at, source_line, line_words, told_operands, answer_words, values_behind}
+use Rattle.run_trace.specs.StepLines.{StepPlace, step_place, listed_at, source_line, line_words, told_operands, values_behind}
 use Rattle.run_trace.specs.RunTexts.{given_word}
 
 -- ---- tables
@@ -95,10 +95,15 @@ step_code text (Set m n x v) = x ++ (codes " = " ++ text)
 step_code text (Test m n holds) = text
 step_code text (Enter m n callee) = codes "EXECUTE " ++ callee
 
+-- how a test is answered, as a page has it: an arrow in UTF-8, and yes or no
+abbrev pub answer_arrow : Bool → List ℕ
+answer_arrow true = 0xE2 ∷ 0x86 ∷ 0x92 ∷ codes " yes"
+answer_arrow false = 0xE2 ∷ 0x86 ∷ 0x92 ∷ codes " no"
+
 -- what comes of it: the value that is put, or how the test is answered
 abbrev pub step_outcome : TraceStep → List ℕ
 step_outcome (Set m n x v) = codes "= " ++ plain_text v
-step_outcome (Test m n holds) = answer_words holds
+step_outcome (Test m n holds) = answer_arrow holds
 step_outcome (Enter m n callee) = []
 
 -- what an entry says

@@ -43,22 +43,35 @@ source_line f lines p = option_and_then (λ k. line_at lines k p.statement) (met
 
 -- ---- the values that it reads
 
--- the value of a variable, behind a bracket or a comma
-abbrev pub operand_text : List ℕ → Bool → Option Decimal → List ℕ
-operand_text x is_open None = []
-operand_text x true (Some v) = codes ", " ++ (x ++ (codes " = " ++ plain_text v))
-operand_text x false (Some v) = codes "  (" ++ (x ++ (codes " = " ++ plain_text v))
+-- the value of a variable, behind what opens the values or a comma
+abbrev pub operand_text : List ℕ → List ℕ → Bool → Option Decimal → List ℕ
+operand_text opening x is_open None = []
+operand_text opening x true (Some v) = codes ", " ++ (x ++ (codes " = " ++ plain_text v))
+operand_text opening x false (Some v) = opening ++ (x ++ (codes " = " ++ plain_text v))
 
--- the values of the variables among some names, as NAME = VALUE with commas between, and a bracket behind them
-abbrev pub more_operands : Flowchart → List Decimal → Bool → List (List ℕ) → List ℕ
-more_operands f values is_open [] = if is_open then codes ")" else []
-more_operands f values is_open (x ∷ xs) =
-    operand_text x is_open (variable_value f values x)
-    ++ more_operands f values (is_open || is_some (variable_value f values x)) xs
+-- what opens some values, and what closes them
+pub record Brackets : Type 0 where
+  pub opening : List ℕ
+  pub closing : List ℕ
 
--- the same in round brackets; nothing where none is a variable's
+-- these two
+abbrev pub brackets : List ℕ → List ℕ → Brackets
+brackets opening closing = record { opening = opening; closing = closing }
+
+-- the values of the variables among some names, as NAME = VALUE with commas between, and behind them what closes them
+abbrev pub more_operands : Flowchart → List Decimal → Brackets → Bool → List (List ℕ) → List ℕ
+more_operands f values b is_open [] = if is_open then b.closing else []
+more_operands f values b is_open (x ∷ xs) =
+    operand_text b.opening x is_open (variable_value f values x)
+    ++ more_operands f values b (is_open || is_some (variable_value f values x)) xs
+
+-- round brackets, two spaces before them
+abbrev pub round_brackets : Brackets
+round_brackets = brackets (codes "  (") (codes ")")
+
+-- the values in round brackets; nothing where none is a variable's
 abbrev pub told_operands : Flowchart → List Decimal → List (List ℕ) → List ℕ
-told_operands f values xs = more_operands f values false xs
+told_operands f values xs = more_operands f values round_brackets false xs
 
 -- ---- lines
 

@@ -2,11 +2,11 @@
 ghost use Rattle.std.specs.Prelude.{◌≡◌, ◌++◌, IfOk, OnOk, option_map};
 ghost use Rattle.pap_tree.specs.Flowchart.{flowchart_of};
 ghost use Rattle.run_trace.specs.StepLines.{step_place};
-ghost use Rattle.run_trace.specs.RunPages.{place_of, listed_text, step_code, step_outcome, entry_words, entry_text, is_listed, gap_text, numbered_entry, numbered_entries};
+ghost use Rattle.run_trace.specs.RunPages.{place_of, listed_text, step_code, step_outcome, answer_arrow, entry_words, entry_text, is_listed, gap_text, numbered_entry, numbered_entries};
 ghost use Rattle.run_trace.specs.private.PageViews.{place_of_entry, words_of_entry};
 ghost use Rattle.run_trace.specs.private.TellingViews.{KnowsStatements};
 
-use crate::step_text::{answer_words, follow};
+use crate::step_text::follow;
 use crate::telling::Telling;
 use flowchart_markup::{Fill, Page};
 use month_trace::TraceStep;
@@ -16,7 +16,7 @@ use statement_list::ListedStatement;
 use std::alloc::{AllocError, Global};
 
 /// How many entries the list has at its beginning and at its end, where it hasn't all.
-const ENTRIES_AT_AN_END: usize = 500;
+pub(crate) const ENTRIES_AT_AN_END: usize = 500;
 
 /// Appends what the list has for each step, of so many in all. The values are those before the first step, and in the end those behind the last.
 pub(crate) fn write_entries(
@@ -63,7 +63,7 @@ fn write_numbered(
 }
 
 /// Whether the list has the entry of a number, of so many in all.
-fn is_listed(total: usize, number: usize) -> bool
+pub(crate) fn is_listed(total: usize, number: usize) -> bool
     ensures { result ≡ is_listed total number }
 {
     number <= ENTRIES_AT_AN_END || total.saturating_sub(number) < ENTRIES_AT_AN_END
@@ -150,7 +150,7 @@ fn put_entry(page: &mut Page, entry: Entry<'_>) -> Result<(), AllocError>
 }
 
 /// The place of a step: its method, and the number of its statement there.
-fn place_of(step: &TraceStep) -> (Name, u32)
+pub(crate) fn place_of(step: &TraceStep) -> (Name, u32)
     ensures { step_place result.0 result.1 ≡ place_of step.now }
 {
     match step {
@@ -200,8 +200,19 @@ fn step_outcome(alloc: Global, step: &TraceStep) -> Result<Vec<u8>, AllocError>
             let value = format!(in alloc; "= {value}")?;
             outcome.extend_from_slice(value.as_bytes())?;
         }
-        TraceStep::Test { yes, .. } => outcome.extend_from_slice(answer_words(*yes))?,
+        TraceStep::Test { yes, .. } => outcome.extend_from_slice(answer_arrow(*yes))?,
         TraceStep::Enter { .. } => {}
     }
     Ok(outcome)
+}
+
+/// How a test is answered.
+pub(crate) fn answer_arrow(yes: bool) -> &'static [u8]
+    ensures { result.now ≡ answer_arrow yes }
+{
+    if yes {
+        b"\xe2\x86\x92 yes"
+    } else {
+        b"\xe2\x86\x92 no"
+    }
 }

@@ -4,11 +4,13 @@
 
 mod entries;
 mod head;
+mod marks;
 mod page;
 mod step_text;
+mod tally;
 mod telling;
 mod text;
 mod values;
 
-pub use page::{blocked_part, run_part};
+pub use page::{RunOnPage, blocked_part, run_on_page};
 pub use text::run_text;

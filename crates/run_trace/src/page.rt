@@ -5,17 +5,19 @@ ghost use Rattle.scaled_decimal.specs.PlainTexts.{plain_text};
 ghost use Rattle.pap_tree.specs.Declarations.{declaration_of};
 ghost use Rattle.pap_tree.specs.Flowchart.{flowchart_of};
 ghost use Rattle.pap_plan.specs.Plans.{Admits, flowchart};
-ghost use Rattle.run_trace.specs.ShownRuns.{ShowsRun};
+ghost use Rattle.run_trace.specs.ShownRuns.{ShowsRun, run_pieces};
 ghost use Rattle.run_trace.specs.RunPages.{word_row, input_row, input_rows, input_table, amount_row, output_row, output_table, cost_sentence, blocked_text, blocked_part, part_list};
 ghost use Rattle.run_trace.specs.private.PageViews.{AddsTables, AddsList};
 ghost use Rattle.run_trace.specs.private.TellingViews.{KnowsStatements};
 
 use crate::entries::write_entries;
 use crate::head::given_word;
+use crate::marks::run_marks;
 use crate::telling::Telling;
 use crate::text::finish;
 use crate::values::begin_values;
 use flowchart_markup::{Fill, Page};
+use flowchart_methods::MethodMarks;
 use month_trace::{TraceStep, trace_run};
 use pap_plan::Plan;
 use pap_tree::{Declared, Name};
@@ -27,25 +29,34 @@ use std::alloc::{AllocError, Global};
 use std::marker::Brand;
 use std::sync::ledger::Blank;
 
-/// A run of a plan as a part of a page: a table of its inputs, each with its value and whether it was given, one of its outputs, how
-/// many steps it took, and an ordered list of the statements that it executes. An entry of the list has its place, as a link to it in
-/// the drawing of the plan, and what the text of the run has of it. Of more than 1,000 entries the list has the first 500 and the last
-/// 500, and says how many are left out. Takes time linear in the plan and in what the run executes.
-pub fn run_part(
+/// A run of a plan on a page: the part of the page that tells of it, and for the drawings what it did at each statement, by method:
+/// MAIN first, and then the others in the order of the text.
+#[derive(Drop)]
+pub struct RunOnPage {
+    pub part: Page,
+    pub marks: Vec<MethodMarks>,
+}
+
+/// A run of a plan on a page. The part has a table of its inputs, each with its value and whether it was given, one of its outputs,
+/// how many steps it took, and an ordered list of the statements that it executes. An entry of the list has its place, as a link to
+/// it in the drawing of the plan, and what the text of the run has of it. Of more than 1,000 entries the list has the first 500 and
+/// the last 500, and says how many are left out. The mark of a statement leads to its first entry, and has what came of its first
+/// three executions. Takes time linear in the plan and in what the run executes, but for a look-up of each step's method.
+pub fn run_on_page(
     alloc: Global,
     plan: &Plan,
     lines: &SourceLines,
     given: &Values,
     inputs: &[Dec],
-) -> Result<Page, AllocError>
+) -> Result<RunOnPage, AllocError>
     requires { Admits plan.now inputs.now }
-    ensures { IfOk result (λ part.
-        ShowsRun (flowchart plan.now) lines.now given.now inputs.now part) }
+    ensures { IfOk result (λ run. ShowsRun (flowchart plan.now) lines.now given.now inputs.now
+        (run_pieces run.part run.marks.items)) }
 {
     let mut part = Page::new(alloc);
     write_tables(&mut part, plan, given, inputs)?;
-    write_steps(&mut part, plan, lines, inputs)?;
-    Ok(part)
+    let marks = write_steps(&mut part, plan, lines, inputs)?;
+    Ok(RunOnPage { part, marks })
 }
 
 /// The part of a page on a run that there is none of: why that is so, in words, and the line that `papcalc once` has for it.
@@ -210,29 +221,31 @@ fn write_cost(part: &mut Page, cost: u64, bound: u64) -> Result<(), AllocError>
     )
 }
 
-/// Appends the list of a run's statements.
+/// Appends the list of a run's statements; gives what the run did at each.
 fn write_steps(
     part: &mut Page,
     plan: &Plan,
     lines: &SourceLines,
     inputs: &[Dec],
-) -> Result<(), AllocError>
+) -> Result<Vec<MethodMarks>, AllocError>
     requires { Admits plan.now inputs.now }
-    ensures { OnOk result
-        (AddsList (flowchart plan.now) lines.now inputs.now part.old part.new) }
+    ensures { IfOk result (λ marks. AddsList (flowchart plan.now) lines.now inputs.now
+        part.old part.new marks.items) }
 {
     let alloc = part.alloc();
     let text = plan.text();
     let steps = trace_run(alloc, plan, inputs)?;
     let methods = list_statements(alloc, text.plan())?;
-    let mut values = begin_values(alloc, text, inputs)?;
     let telling = Telling {
         alloc,
         plan: text,
         methods: &methods,
         lines,
     };
-    write_list(telling, part, &mut values, &steps)
+    let mut values = begin_values(alloc, text, inputs)?;
+    write_list(telling, part, &mut values, &steps)?;
+    let mut again = begin_values(alloc, text, inputs)?;
+    run_marks(telling, &mut again, &steps)
 }
 
 /// Appends the list of these statements of a run, which begins with these values.

@@ -83,7 +83,7 @@ fn write_step(
 }
 
 /// How a test is answered.
-pub(crate) fn answer_words(yes: bool) -> &'static [u8]
+fn answer_words(yes: bool) -> &'static [u8]
     ensures { result.now ≡ answer_words yes }
 {
     if yes { b" -> yes" } else { b" -> no" }

@@ -1,9 +1,10 @@
 //! What is known of a flowchart's statements while its run is told.
-ghost use Rattle.std.specs.Prelude.{◌≡◌, ◌++◌, ◌||◌, is_some, OnOk, IfOk, option_map, string_bytes};
+ghost use Rattle.std.specs.Prelude.{◌≡◌, ◌++◌, ◌||◌, false, is_some, OnOk, IfOk, option_map, string_bytes};
 ghost use Rattle.pap_tree.specs.Flowchart.{flowchart_of};
 ghost use Rattle.run_trace.specs.VariableValues.{variable_value};
-ghost use Rattle.run_trace.specs.StepLines.{method_number, listed_at, source_line, step_place, line_words, place_words, listed_words, told_line, told_operands, operand_text};
+ghost use Rattle.run_trace.specs.StepLines.{method_number, listed_at, source_line, step_place, line_words, place_words, listed_words, told_line, told_operands, more_operands, brackets, operand_text};
 ghost use Rattle.run_trace.specs.RunPages.{listed_reads};
+ghost use Rattle.run_trace.specs.RunMarks.{no_brackets};
 ghost use Rattle.run_trace.specs.private.TellingViews.{KnowsStatements, place_of_told};
 
 use crate::values::variable_value;
@@ -33,7 +34,7 @@ pub(crate) struct Told<'a> {
 }
 
 /// The number of a method: 0 is MAIN, and the others are counted from 1 in the order of the text.
-fn method_number(plan: &Typed, name: &Name) -> Option<usize>
+pub(crate) fn method_number(plan: &Typed, name: &Name) -> Option<usize>
     ensures { result ≡ method_number (flowchart_of plan.now) name.now }
 {
     if *name == Name::main() {
@@ -141,7 +142,7 @@ impl<'a> Telling<'a> {
     {
         out.extend_from_slice(listed.text())?;
         out.extend_from_slice(behind)?;
-        self.write_operands(out, values, listed.reads())
+        self.write_operands(out, values, listed.reads(), "  (", b")")
     }
 
     /// The values of the variables that a statement reads, in round brackets.
@@ -154,45 +155,79 @@ impl<'a> Telling<'a> {
             (flowchart_of self.entry.plan.now) values.now
             (listed_reads (option_map (λ s. s.now) listed.entry))) }
     {
+        self.values_read(values, listed, "  (", b")")
+    }
+
+    /// The values of the variables that a test reads, before its answer.
+    pub fn test_operands(
+        self,
+        values: &[Dec],
+        listed: Option<&ListedStatement>,
+    ) -> Result<Vec<u8>, AllocError>
+        ensures { IfOk result (λ operands. operands.items ≡ more_operands
+            (flowchart_of self.entry.plan.now) values.now no_brackets false
+            (listed_reads (option_map (λ s. s.now) listed.entry))) }
+    {
+        self.values_read(values, listed, "", b" ")
+    }
+
+    /// The values of the variables that a statement reads, with what opens and closes them.
+    fn values_read(
+        self,
+        values: &[Dec],
+        listed: Option<&ListedStatement>,
+        opening: &str,
+        closing: &[u8],
+    ) -> Result<Vec<u8>, AllocError>
+        ensures { IfOk result (λ operands. operands.items ≡ more_operands
+            (flowchart_of self.entry.plan.now) values.now (brackets opening.now closing.now) false
+            (listed_reads (option_map (λ s. s.now) listed.entry))) }
+    {
         let mut operands = Vec::new(self.alloc);
         match listed {
-            Some(listed) => self.write_operands(&mut operands, values, listed.reads())?,
+            Some(listed) => {
+                self.write_operands(&mut operands, values, listed.reads(), opening, closing)?
+            }
             None => {}
         }
         Ok(operands)
     }
 
-    /// Appends the values of the variables among some names, in round brackets.
+    /// Appends the values of the variables among some names, with what opens and closes them.
     fn write_operands(
         self,
         out: &mut Vec<u8>,
         values: &[Dec],
         reads: &[Name],
+        opening: &str,
+        closing: &[u8],
     ) -> Result<(), AllocError>
         ensures { OnOk result (out.new.items ≡ out.old.items
-            ++ told_operands (flowchart_of self.entry.plan.now) values.now reads.now) }
+            ++ more_operands (flowchart_of self.entry.plan.now) values.now
+            (brackets opening.now closing.now) false reads.now) }
     {
         let mut is_open = false;
         for name in reads {
-            is_open = self.write_operand(out, values, name, is_open)?;
+            is_open = self.write_operand(out, values, name, opening, is_open)?;
         }
         if is_open {
-            out.extend_from_slice(b")")?;
+            out.extend_from_slice(closing)?;
         }
         Ok(())
     }
 
-    /// Appends the value of a variable, behind a bracket or a comma; gives whether the bracket is open. Nothing where the name is no
-    /// variable's.
+    /// Appends the value of a variable, behind what opens the values or a comma; gives whether they are open. Nothing where the name
+    /// is no variable's.
     fn write_operand(
         self,
         out: &mut Vec<u8>,
         values: &[Dec],
         name: &Name,
+        opening: &str,
         is_open: bool,
     ) -> Result<bool, AllocError>
         ensures text { OnOk result (out.new.items ≡ out.old.items
-            ++ operand_text name.now is_open
+            ++ operand_text opening.now name.now is_open
             (variable_value (flowchart_of self.entry.plan.now) values.now name.now)) }
         ensures opened { IfOk result (λ opened. opened ≡ (is_open
             || is_some (variable_value (flowchart_of self.entry.plan.now) values.now name.now))) }
@@ -200,7 +235,7 @@ impl<'a> Telling<'a> {
         let Some(value) = variable_value(self.plan, values, name) else {
             return Ok(is_open);
         };
-        let lead = if is_open { ", " } else { "  (" };
+        let lead = if is_open { ", " } else { opening };
         let text = format!(in self.alloc; "{lead}{name} = {value}")?;
         out.extend_from_slice(text.as_bytes())?;
         Ok(true)

@@ -15,10 +15,10 @@ use Rattle.flowchart_page.specs.Judged.{finding_of, words_of, HasLine}
 use Rattle.flowchart_page.specs.Pages.{IsRunPage}
 use Rattle.flowchart_page.specs.Verdicts.{files_with}
 use Rattle.source_lines.specs.Lines.{lines_of_file}
-use Rattle.run_trace.specs.ShownRuns.{ShowsRun}
+use Rattle.run_trace.specs.ShownRuns.{RunPieces, ShowsRun}
 use Rattle.run_trace.specs.RunPages.{blocked_part}
 use Rattle.author_cli.specs.declared.drawn.Judged.{Judged}
-use Rattle.author_cli.specs.Drawn.{shown_run, blocked_line}
+use Rattle.author_cli.specs.Drawn.{shown_run, shown_part, blocked_line}
 
 -- the plan is accepted from the bytes of both files, and this is the verdict on it
 pub record IsOfFiles (j : Judged) : Type 0 where
@@ -32,9 +32,9 @@ pub record DrawsRun (j : Judged) (f : Flowchart) (given : List NamedValue) (inpu
     (reason : Option (List ℕ)) : Type 0 where
   pub notes : Notes
   pub noted : HasNotes j.plan.bytes.now notes
-  pub part : List ℕ
-  pub shows : ShowsRun f (lines_of_file j.plan.bytes.now notes.marks.items) given inputs part
-  pub page : IsRunPage (Some (shown_run part)) j.plan.bytes.now (Some j.limits.bytes.now) None text
+  pub run : RunPieces
+  pub shows : ShowsRun f (lines_of_file j.plan.bytes.now notes.marks.items) given inputs run
+  pub page : IsRunPage (Some (shown_run run)) j.plan.bytes.now (Some j.limits.bytes.now) None text
   pub silent : reason ≡ None
 
 -- the page of the plan says why a run has no inputs
@@ -43,4 +43,4 @@ pub record DrawsBlocked (j : Judged) (state : Blocked) (text : List ℕ) (reason
   pub said : reason ≡ Some words
   pub line : IsOneLine words
   pub says : SaysState (files_with (named_text j.plan) (Some (named_text j.limits))) state words
-  pub page : IsRunPage (Some (shown_run (blocked_part words (blocked_line state)))) j.plan.bytes.now (Some j.limits.bytes.now) None text
+  pub page : IsRunPage (Some (shown_part (blocked_part words (blocked_line state)))) j.plan.bytes.now (Some j.limits.bytes.now) None text

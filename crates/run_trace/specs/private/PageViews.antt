@@ -7,10 +7,12 @@ use Rattle.payroll_records.specs.declared.values.NamedValue.{NamedValue}
 use Rattle.month_trace.specs.declared.step.TraceStep.{TraceStep}
 use Rattle.month_trace.specs.Traces.{trace_of}
 use Rattle.source_lines.specs.Lines.{FileLines}
+use Rattle.flowchart_methods.specs.Marks.{Marked}
 use Rattle.run_trace.specs.declared.entries.Entry.{Entry}
 use Rattle.run_trace.specs.VariableValues.{begin_values}
 use Rattle.run_trace.specs.StepLines.{StepPlace, step_place}
 use Rattle.run_trace.specs.RunPages.{EntryWords, part_head, part_list}
+use Rattle.run_trace.specs.RunMarks.{marks_of_run}
 
 -- the place of an entry
 abbrev pub place_of_entry : Entry → StepPlace
@@ -27,8 +29,10 @@ pub record AddsTables (f : Flowchart) (given : List NamedValue) (inputs : List D
   pub ran : outputs_of f inputs ≡ Some outputs
   pub added : after ≡ before ++ part_head f given inputs outputs
 
--- the list of a run's statements is added
-pub record AddsList (f : Flowchart) (lines : FileLines) (inputs : List Decimal) (before after : List ℕ) : Type 0 where
+-- the list of a run's statements is added, and these are its marks
+pub record AddsList (f : Flowchart) (lines : FileLines) (inputs : List Decimal) (before after : List ℕ) (marks : List (List Marked))
+    : Type 0 where
   pub steps : List TraceStep
   pub traced : trace_of f inputs ≡ Some steps
   pub added : after ≡ before ++ part_list f lines (begin_values f inputs) steps
+  pub marked : marks ≡ marks_of_run f inputs steps
