@@ -1,5 +1,5 @@
 -- The page of a run from what the calls below promise.
-use Rattle.std.proofs.Common.{◌≡◌, ℕ, List, [], refl, inl, inr, sym, ap, subst, ◌∙◌, string_bytes}
+use Rattle.std.proofs.Common.{◌≡◌, ℕ, List, refl, inl, inr, sym, ap, subst, ◌∙◌, string_bytes}
 use Rattle.std.specs.Prelude.{Option, Some, None}
 use Rattle.scaled_decimal.specs.Decimals.{Decimal}
 use Rattle.payroll_records.specs.declared.values.NamedValue.{NamedValue}
@@ -9,7 +9,6 @@ use Rattle.carry_bindings.specs.declared.filling.Blocked.{Blocked}
 use Rattle.pap_tree.specs.Flowchart.{Flowchart}
 use Rattle.pap_plan.specs.Plans.{flowchart, meaning}
 use Rattle.pay_run.specs.Accepted.{accepted}
-use Rattle.pay_run.specs.Runs.{filled}
 use Rattle.plan_notes.specs.declared.notes.Notes.{Notes}
 use Rattle.plan_notes.specs.declared.tag.Mark.{Mark}
 use Rattle.plan_notes.specs.Notes.{HasNotes}
@@ -29,6 +28,7 @@ use Rattle.source_lines.specs.Lines.{FileLines, lines_of_file}
 use Rattle.run_trace.specs.RunPages.{blocked_part}
 use Rattle.run_trace.specs.ShownRuns.{ShowsRun, run_pieces}
 use Rattle.author_cli.specs.declared.drawn.Judged.{Judged}
+use Rattle.author_cli.specs.Given.{filled_given}
 use Rattle.author_cli.specs.Drawn.{shown_run, shown_part, blocked_line, IsDrawnRefused, IsDrawn}
 use Rattle.author_cli.specs.private.DrawnViews.{IsOfFiles, DrawsRun, DrawsBlocked}
 use Rattle.author_cli.proofs.TracedLemmas.{filled_of}
@@ -47,7 +47,7 @@ of_files j is found line plan = record {
 -- the page with the run
 pub drawn_run : (values given : List NamedValue) (j : Judged) (inputs : List Decimal) (found : Filled) (text : List ℕ)
     (reason : Option (List ℕ)) → IsOfFiles j → given ≡ values → found ≡ Inputs inputs
-    → found ≡ filled (accepted j.accepted.now) given [] → DrawsRun j (flowchart j.accepted.now) given inputs text reason
+    → found ≡ filled_given (accepted j.accepted.now) given → DrawsRun j (flowchart j.accepted.now) given inputs text reason
     → IsDrawn values (named_text j.plan) (named_text j.limits) text reason
 drawn_run values given j inputs found text reason h same is are r =
     let plan = j.plan.bytes.now in
@@ -69,7 +69,7 @@ drawn_run values given j inputs found text reason h same is are r =
 -- the page that says why there is none
 pub drawn_blocked : (values given : List NamedValue) (j : Judged) (state : Blocked) (found : Filled) (text : List ℕ)
     (reason : Option (List ℕ)) → IsOfFiles j → given ≡ values → found ≡ State state
-    → found ≡ filled (accepted j.accepted.now) given [] → DrawsBlocked j state text reason
+    → found ≡ filled_given (accepted j.accepted.now) given → DrawsBlocked j state text reason
     → IsDrawn values (named_text j.plan) (named_text j.limits) text reason
 drawn_blocked values given j state found text reason h same is are r =
     let plan = j.plan.bytes.now in

@@ -5,6 +5,7 @@ mod TellsLemmas
 mod FrontLemmas
 mod LeavesLemmas
 mod DraftLemmas
+mod GivenLemmas
 mod TracedLemmas
 mod DrawnLemmas
 mod ExampleLemmas

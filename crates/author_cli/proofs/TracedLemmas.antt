@@ -29,6 +29,7 @@ use Rattle.plan_notes.specs.declared.tag.Mark.{Mark}
 use Rattle.plan_notes.specs.Notes.{HasNotes}
 use Rattle.source_lines.specs.Lines.{FileLines, lines_of_file}
 use Rattle.run_trace.specs.RunTexts.{TellsRun}
+use Rattle.author_cli.specs.Given.{unbound_plan, filled_given}
 use Rattle.author_cli.specs.Traced.{filled_alone, IsRefusedAs, IsTraced}
 use Rattle.author_cli.specs.private.TracedViews.{IsRunOf, SaysBlocked}
 
@@ -55,24 +56,24 @@ never_waits p values day =
     (inputs slots values []) day (waits_none slots)
 
 pub waits_for_none : (p : Accepted) (values : List NamedValue) (state : Blocked) (found : Filled) (day : Day)
-    → found ≡ State state → found ≡ filled p values [] → state ≢ blocked.Waits day
-waits_for_none p values state found day is are e = never_waits p values day (sym are ∙ is ∙ ap State e)
+    → found ≡ State state → found ≡ filled_given p values → state ≢ blocked.Waits day
+waits_for_none p values state found day is are e = never_waits (unbound_plan p) values day (sym are ∙ is ∙ ap State e)
 
 -- ---- a run
 
 -- what the values fill is filled of both files
 pub filled_of : (values given : List NamedValue) (plan limits : List ℕ) (p : Seen) (found result : Filled)
-    → IsAcceptedAs plan limits p → given ≡ values → found ≡ result → found ≡ filled (accepted p) given []
+    → IsAcceptedAs plan limits p → given ≡ values → found ≡ result → found ≡ filled_given (accepted p) given
     → filled_alone values plan limits (meaning p) ≡ result
 filled_of values given plan limits p found result h same is are =
     let alone : filled_alone values p.plan p.limits (meaning p) ≡ result =
-    ap (λ v. filled (accepted p) v []) (sym same) ∙ sym are ∙ is in
+    ap (λ v. filled_given (accepted p) v) (sym same) ∙ sym are ∙ is in
     subst (λ l. filled_alone values plan l (meaning p) ≡ result) h.limits_bytes
     (subst (λ b. filled_alone values b p.limits (meaning p) ≡ result) h.plan_bytes alone)
 
 pub told_run : (values given : List NamedValue) (plan limits : NamedText) (p : Seen) (inputs : List Decimal) (found : Filled)
     (text : List ℕ) (reason : Option (List ℕ)) → IsAcceptedAs plan.bytes limits.bytes p → given ≡ values
-    → found ≡ Inputs inputs → found ≡ filled (accepted p) given []
+    → found ≡ Inputs inputs → found ≡ filled_given (accepted p) given
     → IsRunOf plan.bytes (flowchart p) given inputs text reason → IsTraced values plan limits text reason
 told_run values given plan limits p inputs found text reason h same is are r = inl (record {
   meaning = meaning p;
@@ -87,7 +88,7 @@ told_run values given plan limits p inputs found text reason h same is are r = i
 
 pub blocked_run : (values given : List NamedValue) (plan limits : NamedText) (p : Seen) (state : Blocked) (found : Filled)
     (text : List ℕ) (reason : Option (List ℕ)) → IsAcceptedAs plan.bytes limits.bytes p → given ≡ values
-    → found ≡ State state → found ≡ filled (accepted p) given []
+    → found ≡ State state → found ≡ filled_given (accepted p) given
     → SaysBlocked plan limits state text reason → IsTraced values plan limits text reason
 blocked_run values given plan limits p state found text reason h same is are r = inr (inl (record {
   meaning = meaning p;

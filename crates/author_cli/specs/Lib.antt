@@ -1,6 +1,7 @@
 pub mod Answers
 pub mod CallClauses
 pub mod Compared
+pub mod Given
 pub mod Traced
 pub mod Drawn
 pub mod Ends

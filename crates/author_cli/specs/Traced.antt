@@ -8,7 +8,6 @@ use Rattle.carry_bindings.specs.declared.filling.Filled.{Filled}
 use Rattle.carry_bindings.specs.declared.filling.Filled.TheVariants.{Inputs, State}
 use Rattle.pap_plan.specs.declared.refusal.PlanRefusal.{PlanRefusal}
 use Rattle.pap_plan.specs.Acceptance.{Meaning, IsAccepted, IsRefused}
-use Rattle.pay_run.specs.Runs.{filled}
 use Rattle.plan_answers.specs.Refusals.{HasDetail}
 use Rattle.plan_answers.specs.Lines.{refusal_line}
 use Rattle.plan_notes.specs.declared.notes.Notes.{Notes}
@@ -20,10 +19,11 @@ use Rattle.plain_words.specs.States.{SaysState}
 use Rattle.flowchart_page.specs.Verdicts.{files_with}
 use Rattle.source_lines.specs.Lines.{lines_of_file}
 use Rattle.run_trace.specs.RunTexts.{TellsRun}
+use Rattle.author_cli.specs.Given.{filled_given}
 
--- the inputs of an accepted plan's run on these values, without earlier runs, or why it has none
+-- the inputs of an accepted plan's run on these values, or why it has none
 abbrev pub filled_alone : List NamedValue → List ℕ → List ℕ → Meaning → Filled
-filled_alone values plan limits m = filled (record { plan = plan; limits = limits; meaning = m }) values []
+filled_alone values plan limits m = filled_given (record { plan = plan; limits = limits; meaning = m }) values
 
 -- the plan is accepted, and the text tells of its run on these values, with the lines of the plan's file
 pub record IsToldRun (values : List NamedValue) (plan limits text : List ℕ) (reason : Option (List ℕ)) : Type 0 where

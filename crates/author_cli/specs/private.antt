@@ -1,5 +1,6 @@
 pub mod AnswerViews
 pub mod TwoFronts
 pub mod WordViews
+pub mod GivenViews
 pub mod TracedViews
 pub mod DrawnViews

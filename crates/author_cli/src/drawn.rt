@@ -12,11 +12,11 @@ ghost use Rattle.author_cli.specs.Ends.{words_of};
 ghost use Rattle.author_cli.specs.private.DrawnViews.{IsOfFiles, DrawsRun, DrawsBlocked};
 
 use crate::answer::Answer;
+use crate::given::fill_given;
 use crate::traced::{record_of, state_detail};
 use carry_bindings::{Blocked, Filled};
 use flowchart_page::{Reason, RunShown, Verdict, draw_judged, judge};
 use pap_plan::Plan;
-use pay_run::filled;
 use payroll_records::Values;
 use plain_words::{TextFile, state_words};
 use plan_notes::read_notes;
@@ -92,7 +92,7 @@ fn draw_accepted(alloc: Global, judged: Judged<'_>, values: Values) -> Result<An
         (named_text judged.entry.limits) answer.text.items (words_of answer.reason)) }
 {
     let record = record_of(values);
-    match filled(alloc, judged.accepted, &record, &[])? {
+    match fill_given(alloc, judged.accepted, &record)? {
         Filled::Inputs(inputs) => draw_run(alloc, judged, &record.values, inputs.as_slice()),
         Filled::State(state) => draw_blocked(alloc, judged, &state),
     }

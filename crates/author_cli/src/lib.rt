@@ -6,6 +6,7 @@ mod call;
 mod compared;
 mod drawn;
 mod example;
+mod given;
 mod linted;
 mod stop;
 mod traced;

@@ -10,9 +10,9 @@ ghost use Rattle.author_cli.specs.Ends.{words_of};
 ghost use Rattle.author_cli.specs.private.TracedViews.{IsRunOf, SaysBlocked};
 
 use crate::answer::Answer;
+use crate::given::fill_given;
 use carry_bindings::{Blocked, Filled};
 use pap_plan::{Plan, PlanRefusal, accept};
-use pay_run::filled;
 use payroll_records::{Day, Employee, Record, Values};
 use plain_words::{TextFile, plan_words, state_words};
 use plan_answers::{refusal, refused};
@@ -52,7 +52,7 @@ fn trace_accepted(
         (named_text plan.entry) (named_text limits.entry) answer.text.items (words_of answer.reason)) }
 {
     let record = record_of(values);
-    match filled(alloc, judged, &record, &[])? {
+    match fill_given(alloc, judged, &record)? {
         Filled::Inputs(inputs) => {
             tell_run(alloc, plan.bytes, judged, &record.values, inputs.as_slice())
         }
