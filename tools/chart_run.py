@@ -140,8 +140,8 @@ def with_entries_changed(page):
 def with_marks_changed(page):
     """The page with each mark of a statement taken away or put where none is, with another line, and with another entry."""
     for match in GROUP.finditer(page):
-        start, end = match.span(3)
-        yield page[:start] + ("" if match.group(3) else " ran") + page[end:]
+        start = page.index('class="s', match.start()) + len('class="s')
+        yield page[:start] + ("" if match.group(3) else " ran") + page[start + len(match.group(3) or ""):]
         for found in (DONE.search(match.group(4)), re.search(r'href="#visit-(\d+)"', match.group(4))):
             if found:
                 at = match.start(4) + found.end(1)
@@ -180,7 +180,7 @@ def some_plan(rng):
         body(methods[k + 1:], 2)
         lines.append("</METHOD>")
     lines.append("</METHODS></PAP>")
-    return "\n".join(lines), "[input.A]\nlow = 0\nhigh = 9\n"
+    return "\n".join(lines), "[input.A]\nlow = 0\nhigh = 9\nplaces = 0\n"
 
 
 def check_random_runs(binary, count, rng):
