@@ -41,14 +41,19 @@ _pap_author() {
         chart:2 | ranges:2 | trace:2 | example:2 | lint:2) _papcalc_files xml "$word" ;;
         chart:3 | trace:3 | example:3 | lint:3) _papcalc_files toml "$word" ;;
         trace:*) _papcalc_inputs "${COMP_WORDS[2]}" "$word" ;;
-        text:2) COMPREPLY=($(compgen -W 'compare trace' -- "$word")) ;;
+        text:2) COMPREPLY=($(compgen -W 'compare trace cover' -- "$word")) ;;
         text:3) _papcalc_files xml "$word" ;;
         text:4)
             case ${COMP_WORDS[2]} in
                 compare) _papcalc_files xml "$word" ;;
-                trace) _papcalc_files toml "$word" ;;
+                trace | cover) _papcalc_files toml "$word" ;;
             esac ;;
-        text:*) if [ "${COMP_WORDS[2]}" = trace ]; then _papcalc_inputs "${COMP_WORDS[3]}" "$word"; fi ;;
+        text:*)
+            case ${COMP_WORDS[2]}:$COMP_CWORD in
+                trace:*) _papcalc_inputs "${COMP_WORDS[3]}" "$word" ;;
+                cover:5) _papcalc_files csv "$word" ;;
+                cover:6) COMPREPLY=($(compgen -W '--at-least' -- "$word")) ;;
+            esac ;;
     esac
 }
 

@@ -304,7 +304,7 @@ module _ (n m : ℕ) (more_plan : 1048576 < n) (more_limits : 262144 < m) where
       subst (λ l. IsBlockedRun values plan (record { name = limits.name; bytes = l }) text reason) w.1
       (subst (λ p. IsBlockedRun values (record { name = plan.name; bytes = p }) (front m limits) text reason) w.0 h)
 
-  refusal_front : (r : PlanRefusal) (plan limits : NamedText) (text : List ℕ) (reason : Option (List ℕ))
+  pub refusal_front : (r : PlanRefusal) (plan limits : NamedText) (text : List ℕ) (reason : Option (List ℕ))
       → IsRefusedAs r (front n plan) (front m limits) text reason → IsRefusedAs r plan limits text reason
   refusal_front r plan limits text reason h =
       let a = refusal_answer n m more_plan more_limits plan.bytes r (refusal h.detail)

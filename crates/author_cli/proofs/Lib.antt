@@ -10,3 +10,6 @@ mod TracedLemmas
 mod DrawnLemmas
 mod ExampleLemmas
 mod LintLemmas
+mod CoverWordLemmas
+mod CoverFrontLemmas
+mod CoveredLemmas

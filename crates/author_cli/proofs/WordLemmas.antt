@@ -1,13 +1,15 @@
 -- The words of the program, and the form that they have.
 use Rattle.std.proofs.Common.{◌≡◌, ℕ, suc, ◌+◌, ◌-◌, ◌<◌, ◌≤◌, List, [], ◌∷◌, ◌++◌, length, take, drop, get_or, refl, sym, ap, ◌∙◌, subst, arith, add-one}
-use Rattle.std.specs.Prelude.{codes, String, string_bytes}
+use Rattle.std.specs.Prelude.{Option, Some, None, codes, String, string_bytes}
+use Rattle.std.specs.Option.{ForSome}
+use Rattle.std.proofs.lemmas.Fmt.{decimal_injective}
 use Rattle.std.specs.declared.alloc.Global.{Global}
 use Rattle.std.proofs.lemmas.List.{length-map, take_all, take_more, take-append-drop, map-append}
 use Rattle.std.proofs.Math.Seq.{drop-cons}
 use Rattle.payroll_records.specs.ValueWords.{AreValueWords}
 use Rattle.payroll_records.specs.declared.values.NamedValue.{NamedValue}
 use Rattle.payroll_records.proofs.Laws.{values_once}
-use Rattle.author_cli.specs.Words.{texts, Form, chart, chart_within, ranges, compared, traced, drawn, example, linted, HasForm, IsBad}
+use Rattle.author_cli.specs.Words.{texts, Form, chart, chart_within, ranges, compared, traced, drawn, example, linted, covered, least_words, HasForm, IsBad}
 use Rattle.author_cli.specs.private.WordViews.{text_words}
 
 two_three : (a b c d e : List ℕ) → a ∷ b ∷ [] ≡ c ∷ d ∷ e ∷ [] → ⊥
@@ -49,6 +51,12 @@ two_rest a b c d e rest h = let l : 2 ≡ suc (suc (suc (length rest))) = ap (λ
 compare_trace : codes "compare" ≡ codes "trace" → ⊥
 compare_trace e = cc
 
+compare_cover : codes "compare" ≡ codes "cover" → ⊥
+compare_cover e = cc
+
+cover_trace : codes "cover" ≡ codes "trace" → ⊥
+cover_trace e = let c : 99 ≡ 116 = ap (λ w. get_or w 0 0) e in omega (arith, c)
+
 -- ---- one form
 
 first : (words : List (List ℕ)) (a b : List ℕ) (x y : List (List ℕ)) → words ≡ a ∷ x → words ≡ b ∷ y → a ≡ b
@@ -68,6 +76,16 @@ third_of_four words a b c d e f g h p q = ap (λ w. get_or w 2 []) (sym p ∙ q)
 fourth : (words : List (List ℕ)) (a b c d e f g h : List ℕ) → words ≡ a ∷ b ∷ c ∷ d ∷ []
     → words ≡ e ∷ f ∷ g ∷ h ∷ [] → d ≡ h
 fourth words a b c d e f g h p q = ap (λ w. get_or w 3 []) (sym p ∙ q)
+
+-- the words for a share say which it is
+one_least : (a b : Option ℕ) → ForSome a (λ n. n ≤ 100) → ForSome b (λ n. n ≤ 100) → least_words a ≡ least_words b → a ≡ b
+one_least None None p q e = refl
+one_least None (Some n) p q e = cc
+one_least (Some m) None p q e = cc
+one_least (Some m) (Some n) p q e =
+    let few : m ≤ 100 = p m refl in
+    let few' : n ≤ 100 = q n refl in
+    ap (λ k. Some k) (decimal_injective m n (omega arith) (omega arith) (ap (λ w. get_or w 1 []) e))
 
 pub one_form : (words : List (List ℕ)) (a b : Form) → HasForm words a → HasForm words b → a ≡ b
 one_form words (chart p) (chart q) h k = ap (λ x. chart x) (second words _ p _ q [] [] h k)
@@ -168,6 +186,38 @@ one_form words (example q l) (linted p m) h k =
     absurd (example_lint (first words _ _ (q ∷ l ∷ []) (p ∷ m ∷ []) h k))
 one_form words (linted p m) (example q l) h k =
     absurd (example_lint (first words _ _ (q ∷ l ∷ []) (p ∷ m ∷ []) k h))
+one_form words (chart p) (covered q l t n) h k = absurd (two_more _ p _ _ q l (t ∷ least_words n) (sym h ∙ k.words_are))
+one_form words (chart_within p m) (covered q l t n) h k =
+    absurd (three_more _ p m _ _ q l (t ∷ least_words n) (sym h ∙ k.words_are))
+one_form words (ranges p) (covered q l t n) h k = absurd (two_more _ p _ _ q l (t ∷ least_words n) (sym h ∙ k.words_are))
+one_form words (compared o m) (covered q l t n) h k =
+    absurd (compare_cover (second words _ (codes "compare") _ (codes "cover") (o ∷ m ∷ []) (q ∷ l ∷ t ∷ least_words n) h k.words_are))
+one_form words (traced p m vs) (covered q l t n) h k =
+    absurd (cover_trace (second words _ (codes "cover") _ (codes "trace") (q ∷ l ∷ t ∷ least_words n) (p ∷ m ∷ h.rest) k.words_are h.words_are))
+one_form words (drawn p m vs) (covered q l t n) h k =
+    absurd (text_trace (first words _ _ (codes "cover" ∷ q ∷ l ∷ t ∷ least_words n) (p ∷ m ∷ h.rest) k.words_are h.words_are))
+one_form words (example p m) (covered q l t n) h k =
+    absurd (three_more _ p m _ _ q l (t ∷ least_words n) (sym h ∙ k.words_are))
+one_form words (linted p m) (covered q l t n) h k =
+    absurd (three_more _ p m _ _ q l (t ∷ least_words n) (sym h ∙ k.words_are))
+one_form words (covered q l t n) (chart p) h k = absurd (two_more _ p _ _ q l (t ∷ least_words n) (sym k ∙ h.words_are))
+one_form words (covered q l t n) (chart_within p m) h k =
+    absurd (three_more _ p m _ _ q l (t ∷ least_words n) (sym k ∙ h.words_are))
+one_form words (covered q l t n) (ranges p) h k = absurd (two_more _ p _ _ q l (t ∷ least_words n) (sym k ∙ h.words_are))
+one_form words (covered q l t n) (compared o m) h k =
+    absurd (compare_cover (second words _ (codes "compare") _ (codes "cover") (o ∷ m ∷ []) (q ∷ l ∷ t ∷ least_words n) k h.words_are))
+one_form words (covered q l t n) (traced p m vs) h k =
+    absurd (cover_trace (second words _ (codes "cover") _ (codes "trace") (q ∷ l ∷ t ∷ least_words n) (p ∷ m ∷ k.rest) h.words_are k.words_are))
+one_form words (covered q l t n) (drawn p m vs) h k =
+    absurd (text_trace (first words _ _ (codes "cover" ∷ q ∷ l ∷ t ∷ least_words n) (p ∷ m ∷ k.rest) h.words_are k.words_are))
+one_form words (covered q l t n) (example p m) h k =
+    absurd (three_more _ p m _ _ q l (t ∷ least_words n) (sym k ∙ h.words_are))
+one_form words (covered q l t n) (linted p m) h k =
+    absurd (three_more _ p m _ _ q l (t ∷ least_words n) (sym k ∙ h.words_are))
+one_form words (covered p l t n) (covered q m u o) h k =
+    let same = sym h.words_are ∙ k.words_are in
+    ap (λ w. covered (get_or w 2 []) (get_or w 3 []) (get_or w 4 []) n) same
+    ∙ ap (λ x. covered q m u x) (one_least n o h.percent k.percent (ap (λ w. drop 5 w) same))
 
 -- ---- no form
 
@@ -182,6 +232,7 @@ no_two command plan no_chart no_ranges (traced p l vs) h = two_more _ plan _ _ p
 no_two command plan no_chart no_ranges (drawn p l vs) h = two_rest _ plan _ p l h.rest h.words_are
 no_two command plan no_chart no_ranges (example p l) h = two_three _ plan _ p l h
 no_two command plan no_chart no_ranges (linted p l) h = two_three _ plan _ p l h
+no_two command plan no_chart no_ranges (covered p l t n) h = two_more _ plan _ _ p l (t ∷ least_words n) h.words_are
 
 -- a command and two names
 pub no_three : (command plan limits : List ℕ) → ¬ (command ≡ codes "chart") → ¬ (command ≡ codes "trace") → ¬ (command ≡ codes "example")
@@ -195,25 +246,30 @@ no_three command plan limits no_chart no_trace no_example no_lint (traced p l vs
 no_three command plan limits no_chart no_trace no_example no_lint (drawn p l vs) h = no_trace (ap (λ w. get_or w 0 []) h.words_are)
 no_three command plan limits no_chart no_trace no_example no_lint (example p l) h = no_example (ap (λ w. get_or w 0 []) h)
 no_three command plan limits no_chart no_trace no_example no_lint (linted p l) h = no_lint (ap (λ w. get_or w 0 []) h)
+no_three command plan limits no_chart no_trace no_example no_lint (covered p l t n) h =
+    three_more _ plan limits _ _ p l (t ∷ least_words n) h.words_are
 
 -- a form, a command, two names and some words
 pub no_more : (form command first second : List ℕ) (rest : List (List ℕ))
     → (form ≡ codes "text" → ¬ (command ≡ codes "compare")) → (form ≡ codes "text" → ¬ (command ≡ codes "trace"))
-    → ¬ (form ≡ codes "trace") → IsBad (form ∷ command ∷ first ∷ second ∷ rest)
-no_more form command first second rest no_compare no_trace no_drawn (chart p) h = two_more _ p _ _ first second rest (sym h)
-no_more form command first second rest no_compare no_trace no_drawn (chart_within p l) h =
+    → (form ≡ codes "text" → ¬ (command ≡ codes "cover")) → ¬ (form ≡ codes "trace")
+    → IsBad (form ∷ command ∷ first ∷ second ∷ rest)
+no_more form command first second rest no_compare no_trace no_cover no_drawn (chart p) h = two_more _ p _ _ first second rest (sym h)
+no_more form command first second rest no_compare no_trace no_cover no_drawn (chart_within p l) h =
     three_more _ p l _ _ first second rest (sym h)
-no_more form command first second rest no_compare no_trace no_drawn (ranges p) h = two_more _ p _ _ first second rest (sym h)
-no_more form command first second rest no_compare no_trace no_drawn (compared o n) h =
+no_more form command first second rest no_compare no_trace no_cover no_drawn (ranges p) h = two_more _ p _ _ first second rest (sym h)
+no_more form command first second rest no_compare no_trace no_cover no_drawn (compared o n) h =
     no_compare (ap (λ w. get_or w 0 []) h) (ap (λ w. get_or w 1 []) h)
-no_more form command first second rest no_compare no_trace no_drawn (traced p l vs) h =
+no_more form command first second rest no_compare no_trace no_cover no_drawn (traced p l vs) h =
     no_trace (ap (λ w. get_or w 0 []) h.words_are) (ap (λ w. get_or w 1 []) h.words_are)
-no_more form command first second rest no_compare no_trace no_drawn (drawn p l vs) h =
+no_more form command first second rest no_compare no_trace no_cover no_drawn (drawn p l vs) h =
     no_drawn (ap (λ w. get_or w 0 []) h.words_are)
-no_more form command first second rest no_compare no_trace no_drawn (example p l) h =
+no_more form command first second rest no_compare no_trace no_cover no_drawn (example p l) h =
     three_more _ p l _ _ first second rest (sym h)
-no_more form command first second rest no_compare no_trace no_drawn (linted p l) h =
+no_more form command first second rest no_compare no_trace no_cover no_drawn (linted p l) h =
     three_more _ p l _ _ first second rest (sym h)
+no_more form command first second rest no_compare no_trace no_cover no_drawn (covered p l t n) h =
+    no_cover (ap (λ w. get_or w 0 []) h.words_are) (ap (λ w. get_or w 1 []) h.words_are)
 
 -- `text compare` and more than two names
 pub no_compared : (old new : List ℕ) (rest : List (List ℕ)) → ¬ (length rest ≡ 0)
@@ -226,6 +282,7 @@ no_compared old new rest more (traced p l vs) h = compare_trace (ap (λ w. get_o
 no_compared old new rest more (drawn p l vs) h = text_trace (ap (λ w. get_or w 0 []) h.words_are)
 no_compared old new rest more (example p l) h = three_more _ p l _ _ old new rest (sym h)
 no_compared old new rest more (linted p l) h = three_more _ p l _ _ old new rest (sym h)
+no_compared old new rest more (covered p l t n) h = compare_cover (ap (λ w. get_or w 1 []) h.words_are)
 
 -- `text trace` and words that give no values
 pub no_traced : (plan limits : List ℕ) (rest : List (List ℕ)) → ((values : List NamedValue) → ¬ (AreValueWords rest values))
@@ -239,6 +296,7 @@ no_traced plan limits rest none (traced p l vs) h =
 no_traced plan limits rest none (drawn p l vs) h = text_trace (ap (λ w. get_or w 0 []) h.words_are)
 no_traced plan limits rest none (example p l) h = three_more _ p l _ _ plan limits rest (sym h)
 no_traced plan limits rest none (linted p l) h = three_more _ p l _ _ plan limits rest (sym h)
+no_traced plan limits rest none (covered p l t n) h = cover_trace (sym (ap (λ w. get_or w 1 []) h.words_are))
 
 -- `trace` and words that give no values
 pub no_drawn : (plan limits : List ℕ) (rest : List (List ℕ)) → ((values : List NamedValue) → ¬ (AreValueWords rest values))
@@ -252,6 +310,21 @@ no_drawn plan limits rest none (drawn p l vs) h =
     none vs (subst (λ r. AreValueWords r vs) (sym (ap (λ w. drop 3 w) h.words_are)) h.values_are)
 no_drawn plan limits rest none (example p l) h = example_trace (sym (ap (λ w. get_or w 0 []) h))
 no_drawn plan limits rest none (linted p l) h = lint_trace (sym (ap (λ w. get_or w 0 []) h))
+no_drawn plan limits rest none (covered p l t n) h = text_trace (sym (ap (λ w. get_or w 0 []) h.words_are))
+
+-- `text cover` and words that don't name a table, and a share where one is asked for
+pub no_covered : (plan limits : List ℕ) (rest : List (List ℕ))
+    → ((table : List ℕ) (least : Option ℕ) → ForSome least (λ n. n ≤ 100) → ¬ (rest ≡ table ∷ least_words least))
+    → IsBad (text_words (codes "cover") plan limits rest)
+no_covered plan limits rest none (chart p) h = two_more _ p _ _ plan limits rest (sym h)
+no_covered plan limits rest none (chart_within p l) h = three_more _ p l _ _ plan limits rest (sym h)
+no_covered plan limits rest none (ranges p) h = two_more _ p _ _ plan limits rest (sym h)
+no_covered plan limits rest none (compared o n) h = compare_cover (sym (ap (λ w. get_or w 1 []) h))
+no_covered plan limits rest none (traced p l vs) h = cover_trace (ap (λ w. get_or w 1 []) h.words_are)
+no_covered plan limits rest none (drawn p l vs) h = text_trace (ap (λ w. get_or w 0 []) h.words_are)
+no_covered plan limits rest none (example p l) h = three_more _ p l _ _ plan limits rest (sym h)
+no_covered plan limits rest none (linted p l) h = three_more _ p l _ _ plan limits rest (sym h)
+no_covered plan limits rest none (covered p l t n) h = none t n h.percent (ap (λ w. drop 4 w) h.words_are)
 
 as_many : (words : List (String Global)) (list : List (List ℕ)) → texts words ≡ list → length words ≡ length list
 as_many words list e = sym (length-map words (λ w. string_bytes w)) ∙ ap (λ w. length w) e
@@ -266,6 +339,7 @@ no_other words two few (traced p l vs) h = let l = as_many words _ h.words_are i
 no_other words two few (drawn p l vs) h = let l = as_many words _ h.words_are in omega (arith, l, few)
 no_other words two few (example p l) h = let l = as_many words _ h in omega (arith, l, few)
 no_other words two few (linted p l) h = let l = as_many words _ h in omega (arith, l, few)
+no_other words two few (covered p l t n) h = let l = as_many words _ h.words_are in omega (arith, l, few)
 
 -- ---- all words
 

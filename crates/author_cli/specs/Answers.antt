@@ -15,12 +15,13 @@ use Rattle.plan_answers.specs.Refusals.{read_detail}
 use Rattle.range_draft.specs.Draft.{IsDraft}
 use Rattle.flowchart_page.specs.Pages.{IsPage}
 use Rattle.flowchart_page.specs.Verdicts.{files_with, IsJudged}
-use Rattle.author_cli.specs.Words.{Form, chart, chart_within, ranges, compared, traced, drawn, example, linted}
+use Rattle.author_cli.specs.Words.{Form, chart, chart_within, ranges, compared, traced, drawn, example, linted, covered}
 use Rattle.author_cli.specs.Compared.{IsCompared}
 use Rattle.author_cli.specs.Traced.{IsTraced}
 use Rattle.author_cli.specs.Drawn.{IsDrawn}
 use Rattle.author_cli.specs.Examples.{IsExample}
 use Rattle.author_cli.specs.Linted.{IsLinted}
+use Rattle.author_cli.specs.Covered.{IsCoveredText}
 
 -- what is written, and in words why a plan is refused, that two differ, that a run fails, or how many findings there are, where that is so
 pub record Answer : Type 0 where
@@ -122,6 +123,16 @@ pub record LintsFiles (plan limits : List ℕ) (files : FileMap) (answer : Answe
   pub limits_there : files limits ≡ Some limits_bytes
   pub is : IsLinted (file_of plan plan_bytes) (file_of limits limits_bytes) answer.text answer.reason
 
+-- the three files are there, and this is the answer on the runs of the last through the plan of the others
+pub record CoversFiles (least : Option ℕ) (plan limits table : List ℕ) (files : FileMap) (answer : Answer) : Type 0 where
+  pub plan_bytes : List ℕ
+  pub limits_bytes : List ℕ
+  pub table_bytes : List ℕ
+  pub plan_there : files plan ≡ Some plan_bytes
+  pub limits_there : files limits ≡ Some limits_bytes
+  pub table_there : files table ≡ Some table_bytes
+  pub is : IsCoveredText least (file_of plan plan_bytes) (file_of limits limits_bytes) table_bytes answer.text answer.reason
+
 -- the answer to words of this form
 abbrev pub Answers : Form → FileMap → Answer → Type 0
 Answers (chart plan) files answer = AnswersFile (λ file page. IsChart file None page) plan files answer
@@ -132,3 +143,4 @@ Answers (traced plan limits values) files answer = TracesFiles values plan limit
 Answers (drawn plan limits values) files answer = DrawsFiles values plan limits files answer
 Answers (example plan limits) files answer = SearchesFiles plan limits files answer
 Answers (linted plan limits) files answer = LintsFiles plan limits files answer
+Answers (covered plan limits table least) files answer = CoversFiles least plan limits table files answer

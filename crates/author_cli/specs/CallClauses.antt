@@ -1,15 +1,21 @@
 -- What a call leaves, as it ended.
-use Rattle.std.specs.Prelude.{◌≡◌, ◌≢◌, ℕ, List, ◌++◌, Option, Some, Ok, Err, String}
+use Rattle.std.specs.Prelude.{◌≡◌, ◌≢◌, ◌⊎◌, ℕ, List, ◌++◌, Option, Some, IsSome, Ok, Err, String}
 use Rattle.std.specs.Option.{ForSome}
 use Rattle.std.specs.declared.alloc.Global.{Global}
 use Rattle.outside.specs.Causes.{Still}
 use Rattle.outside.specs.Told.{FileMap, Appends, AppendsShort}
 use Rattle.plan_answers.specs.Fronts.{IsMissing}
 use Rattle.author_cli.specs.declared.stop.Stop.TheVariants as stops
-use Rattle.author_cli.specs.Words.{Form, chart, chart_within, ranges, compared, traced, drawn, example, linted}
+use Rattle.author_cli.specs.Words.{Form, chart, chart_within, ranges, compared, traced, drawn, example, linted, covered}
 use Rattle.author_cli.specs.Answers.{Answer, Answers}
 use Rattle.author_cli.specs.Ends.{Ended, words_of}
 use Rattle.author_cli.specs.Outside.{Outside}
+
+-- the name at which the files failed: that of a plan's two files, or the third one's where both are there
+abbrev pub IsMissingOfThree : Option FileMap → (plan limits table : List ℕ) → Option (List ℕ) → Type 0
+IsMissingOfThree told plan limits table failed =
+    IsMissing told plan limits failed
+    ⊎ ((failed ≡ Some table) × ForSome told (λ files. IsSome (files plan) × IsSome (files limits)))
 
 -- the name at which the files failed: the first one, or the second one where the first file is there
 abbrev pub Lacks : Form → Option FileMap → Option (List ℕ) → Type 0
@@ -21,6 +27,7 @@ Lacks (traced plan limits values) told failed = IsMissing told plan limits faile
 Lacks (drawn plan limits values) told failed = IsMissing told plan limits failed
 Lacks (example plan limits) told failed = IsMissing told plan limits failed
 Lacks (linted plan limits) told failed = IsMissing told plan limits failed
+Lacks (covered plan limits table least) told failed = IsMissingOfThree told plan limits table failed
 
 -- ---- what each end leaves; of the text where the files tell what they hold, of the rest always
 

@@ -11,5 +11,6 @@ pub mod Words
 pub mod DraftLaws
 pub mod Examples
 pub mod Linted
+pub mod Covered
 pub mod Stops
 pub mod private

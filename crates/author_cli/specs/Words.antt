@@ -1,5 +1,7 @@
 -- The forms of the words.
-use Rattle.std.specs.Prelude.{◌≡◌, ℕ, List, [], ◌∷◌, map, codes, String, string_bytes}
+use Rattle.std.specs.Prelude.{◌≡◌, ◌≤◌, ℕ, List, [], ◌∷◌, map, codes, Option, Some, None, String, string_bytes}
+use Rattle.std.specs.Option.{ForSome}
+use Rattle.std.specs.Fmt.{decimal as number}
 use Rattle.std.specs.declared.alloc.Global.{Global}
 use Rattle.payroll_records.specs.declared.values.NamedValue.{NamedValue}
 use Rattle.payroll_records.specs.ValueWords.{AreValueWords}
@@ -26,6 +28,8 @@ pub data Form : Type 0 where
   example : List ℕ → List ℕ → Form
   -- lint PLAN LIMITS
   linted : List ℕ → List ℕ → Form
+  -- text cover PLAN LIMITS TABLE, or with --at-least N
+  covered : List ℕ → List ℕ → List ℕ → Option ℕ → Form
 
 -- the words are `text trace`, the names of two files, and value words that give these values
 pub record HasTraceForm (words : List (List ℕ)) (plan limits : List ℕ) (values : List NamedValue) : Type 0 where
@@ -39,6 +43,16 @@ pub record HasDrawnForm (words : List (List ℕ)) (plan limits : List ℕ) (valu
   pub words_are : words ≡ codes "trace" ∷ plan ∷ limits ∷ rest
   pub values_are : AreValueWords rest values
 
+-- the words for the least share in percent, where one is asked for: a number in decimal without leading zeros
+abbrev pub least_words : Option ℕ → List (List ℕ)
+least_words None = []
+least_words (Some least) = codes "--at-least" ∷ number least ∷ []
+
+-- the words are `text cover`, the names of three files, and the least share, where one is asked for
+pub record HasCoverForm (words : List (List ℕ)) (plan limits table : List ℕ) (least : Option ℕ) : Type 0 where
+  pub words_are : words ≡ codes "text" ∷ codes "cover" ∷ plan ∷ limits ∷ table ∷ least_words least
+  pub percent : ForSome least (λ n. n ≤ 100)
+
 -- the words have this form
 abbrev pub HasForm : List (List ℕ) → Form → Type 0
 HasForm words (chart plan) = words ≡ codes "chart" ∷ plan ∷ []
@@ -49,6 +63,7 @@ HasForm words (traced plan limits values) = HasTraceForm words plan limits value
 HasForm words (drawn plan limits values) = HasDrawnForm words plan limits values
 HasForm words (example plan limits) = words ≡ codes "example" ∷ plan ∷ limits ∷ []
 HasForm words (linted plan limits) = words ≡ codes "lint" ∷ plan ∷ limits ∷ []
+HasForm words (covered plan limits table least) = HasCoverForm words plan limits table least
 
 -- the words have no form
 abbrev pub IsBad : List (List ℕ) → Type 0

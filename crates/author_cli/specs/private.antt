@@ -1,5 +1,6 @@
 pub mod AnswerViews
 pub mod TwoFronts
+pub mod CoveredViews
 pub mod WordViews
 pub mod GivenViews
 pub mod TracedViews

@@ -3,7 +3,7 @@ ghost use Rattle.std.specs.Prelude.{◌≡◌, IfOk, None, option_map};
 ghost use Rattle.outside.specs.Causes.{Caused};
 ghost use Rattle.pap_reader.specs.Elements.{IsFault};
 ghost use Rattle.plain_words.specs.Places.{named_text};
-ghost use Rattle.author_cli.specs.Words.{chart, chart_within, ranges, compared, traced, drawn, example, linted};
+ghost use Rattle.author_cli.specs.Words.{chart, chart_within, ranges, compared, traced, drawn, example, linted, covered};
 ghost use Rattle.author_cli.specs.private.WordViews.{form_of};
 ghost use Rattle.author_cli.specs.Answers.{IsChart, IsUnread, IsRanges};
 ghost use Rattle.author_cli.specs.private.AnswerViews.{answer_of, Makes};
@@ -11,6 +11,7 @@ ghost use Rattle.author_cli.specs.Outside.{outside_of};
 ghost use Rattle.author_cli.specs.CallClauses.{Leaves};
 
 use crate::compared::{compare_plans, read_two};
+use crate::covered::{cover_plan, read_three};
 use crate::drawn::draw_trace;
 use crate::example::seek_example;
 use crate::linted::lint_plan;
@@ -86,6 +87,12 @@ fn make_answer<F: Files>(
         } => answer_drawn(alloc, plan, limits, values, files),
         Request::Example { plan, limits } => answer_example(alloc, plan, limits, files),
         Request::Lint { plan, limits } => answer_linted(alloc, plan, limits, files),
+        Request::Cover {
+            plan,
+            limits,
+            table,
+            least,
+        } => answer_covered(alloc, plan, limits, table, least, files),
     }
 }
 
@@ -263,6 +270,36 @@ fn answer_linted<F: Files>(
         bytes: &limits_bytes,
     };
     Ok(lint_plan(alloc, plan, limits)?)
+}
+
+/// To what the runs of a table come.
+fn answer_covered<F: Files>(
+    alloc: Global,
+    plan: &str,
+    limits: &str,
+    table: &str,
+    least: Option<u8>,
+    files: &mut F,
+) -> Result<Answer, FileAnswer>
+    ensures made { Makes (covered plan.now limits.now table.now least)
+        (F.told files.old) (F.failed files.old) (F.failed files.new) result }
+    ensures same { F.told files.new ≡ F.told files.old }
+    ensures cause { Caused FileAnswer.Failed (F.faults files.old) (F.faults files.new) result }
+{
+    let read = read_three(alloc, plan, limits, table, files)?;
+    let plan = TextFile {
+        name: plan,
+        bytes: &read.plan,
+    };
+    let limits = TextFile {
+        name: limits,
+        bytes: &read.limits,
+    };
+    let table = TextFile {
+        name: table,
+        bytes: &read.table,
+    };
+    Ok(cover_plan(alloc, plan, limits, table, least)?)
 }
 
 /// The page of a plan's bytes, with those of a range file or without.

@@ -4,6 +4,8 @@
 mod answer;
 mod call;
 mod compared;
+mod covered;
+mod covered_words;
 mod drawn;
 mod example;
 mod given;

@@ -42,8 +42,8 @@ impl From<AllocError> for Stop {
 }
 
 /// The number with which the program ends, as those of `papcalc`: 0 where all was written, 1 where that is of a
-/// refused plan, of a run without inputs, of two flowcharts that differ, or of a search that didn't show a plan safe, and else why
-/// the call stopped.
+/// refused plan or table, of a run without inputs, of two flowcharts that differ, of a search that didn't show a plan safe, of
+/// findings, or of runs that come to less than the share asked for, and else why the call stopped.
 pub fn exit_number(ended: &Result<Option<String>, Stop>) -> u8
     ensures { result ≡ number_of ended.now }
 {

@@ -5,6 +5,7 @@ ghost use Rattle.payroll_records.specs.ValueWords.{AreValueWords};
 ghost use Rattle.author_cli.specs.Words.{texts, HasForm, IsBad};
 ghost use Rattle.author_cli.specs.private.WordViews.{form_of, text_words};
 
+use crate::covered_words::read_covered;
 use payroll_records::{InsertFault, NamedValue, Values};
 use std::alloc::{AllocError, Global};
 
@@ -50,6 +51,13 @@ pub(crate) enum Request<'a> {
     Lint {
         plan: &'a str,
         limits: &'a str,
+    },
+    /// `text cover PLAN LIMITS TABLE`, and the N of `--at-least N` where that stands behind it.
+    Cover {
+        plan: &'a str,
+        limits: &'a str,
+        table: &'a str,
+        least: Option<u8>,
     },
 }
 
@@ -162,7 +170,7 @@ fn read_more<'a>(
     command: &str,
     first: &'a str,
     second: &'a str,
-    rest: &[String],
+    rest: &'a [String],
 ) -> Result<Option<Request<'a>>, AllocError>
     requires { ¬ (form.now ≡ codes "trace") }
     ensures { let words = form.now ∷ command.now ∷ first.now ∷ second.now ∷ texts rest.now in
@@ -172,6 +180,7 @@ fn read_more<'a>(
     match (form, command) {
         ("text", "compare") => Ok(read_compared(first, second, rest)),
         ("text", "trace") => read_trace(alloc, first, second, rest),
+        ("text", "cover") => read_covered(alloc, first, second, rest),
         _ => Ok(None),
     }
 }

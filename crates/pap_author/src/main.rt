@@ -13,7 +13,8 @@ const USAGE: &str =
     "usage: pap_author chart PLAN | pap_author chart PLAN LIMITS | pap_author ranges PLAN | \
     pap_author trace PLAN LIMITS NAME=VALUE .. | pap_author example PLAN LIMITS | pap_author lint PLAN LIMITS | \
     pap_author text compare OLD NEW | \
-    pap_author text trace PLAN LIMITS NAME=VALUE ..";
+    pap_author text trace PLAN LIMITS NAME=VALUE .. | \
+    pap_author text cover PLAN LIMITS TABLE | pap_author text cover PLAN LIMITS TABLE --at-least N";
 
 /// The answer to `--version`, with the checksum of the prover's rules by which the contracts are proved.
 const VERSION: &str = "pap_author 1.0.0 (rules dac8208d650f15bf)";
@@ -43,11 +44,17 @@ usage:
   pap_author text trace PLAN LIMITS NAME=VALUE ..
                                    write the run on these inputs: its inputs and outputs, and each statement that it executes,
                                    with its place, its line in PLAN, what it puts or answers, and the values that it reads
+  pap_author text cover PLAN LIMITS TABLE
+                                   write which statements, and which exits of tests, no run of the table comes to, and which share
+                                   the runs come to
+  pap_author text cover PLAN LIMITS TABLE --at-least N
+                                   the same, and end with 1 where that share is below N percent, a number from 0 to 100
   pap_author --help                write this text
   pap_author --version             write the program's version
 
-PLAN, OLD and NEW are files of flowcharts in the ministry's pseudocode (XML), LIMITS a range file (TOML). The page stands
-alone: it has no script and fetches nothing. Open it in a browser, or print it from there.
+PLAN, OLD and NEW are files of flowcharts in the ministry's pseudocode (XML), LIMITS a range file (TOML), TABLE pay runs
+(CSV) as a script's line `load` takes them. The page stands alone: it has no script and fetches nothing. Open it in a browser,
+or print it from there.
 
 Where the plan is refused, a line on standard error says in plain words what is wrong, where it is in the file, and what
 helps. `chart` writes the page all the same, with the reason in it; that of a file that can't be read as a flowchart has no
@@ -55,12 +62,12 @@ drawing. `ranges` doesn't judge the flowchart: only of a file that can't be read
 in place of the range file. `compare` doesn't judge its flowcharts either: the line of the first file that can't be read as
 one is written in place of the text. `trace` fills inputs that aren't given as `papcalc once` does. Of a refused plan or a run
 without inputs its page says why, and its text has the line that `papcalc once` writes. Of a flowchart or a range file that is
-refused for another reason than the ranges of its values, `example` writes the line that `papcalc check` writes. So does `lint`
-of each that is refused.
+refused for another reason than the ranges of its values, `example` writes the line that `papcalc check` writes. So do `lint`
+and `cover` of each that is refused; of a refused table `cover` writes the line that `load` writes.
 
 It ends with 0 where all was written, 1 where that is of a refused plan, of a run without inputs, of two flowcharts that
-differ, of inputs that fail or weren't found, or of findings, 2 where the words are none of these, 3 where a file can't be
-read, 5 where the output can't be written, 6 where memory runs out.";
+differ, of inputs that fail or weren't found, of findings, of a refused table, or of a share below N, 2 where the words are
+none of these, 3 where a file can't be read, 5 where the output can't be written, 6 where memory runs out.";
 
 /// The words after the program's name.
 fn words_of(rt: &HostRuntime) -> io::Result<Vec<String>> {

@@ -2,7 +2,7 @@
 use Rattle.std.specs.Prelude.{ℕ, List, ◌∷◌, codes}
 use Rattle.author_cli.specs.declared.words.Request.{Request}
 use Rattle.author_cli.specs.declared.words.Request.TheVariants as requests
-use Rattle.author_cli.specs.Words.{Form, chart, chart_within, ranges, compared, traced, drawn, example, linted}
+use Rattle.author_cli.specs.Words.{Form, chart, chart_within, ranges, compared, traced, drawn, example, linted, covered}
 
 abbrev pub form_of : Request → Form
 form_of (requests.Chart plan) = chart plan.now
@@ -13,6 +13,7 @@ form_of (requests.Trace plan limits values) = traced plan.now limits.now values
 form_of (requests.Draw plan limits values) = drawn plan.now limits.now values
 form_of (requests.Example plan limits) = example plan.now limits.now
 form_of (requests.Lint plan limits) = linted plan.now limits.now
+form_of (requests.Cover plan limits table least) = covered plan.now limits.now table.now least
 
 -- `text`, a command, two names and some words
 abbrev pub text_words : List ℕ → List ℕ → List ℕ → List (List ℕ) → List (List ℕ)
