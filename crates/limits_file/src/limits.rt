@@ -52,6 +52,7 @@ pub struct Limits {
 
 impl InputLimit {
     /// Whether a value has no more places than the limit, and lies from its low to its high bound.
+    #[inline(always)]
     pub fn fits(&self, value: Dec) -> bool
         ensures { IsTrue result ↔ Fits self.now value }
     {

@@ -117,6 +117,7 @@ impl Dec {
     }
 
     /// The quotient by `b`, which isn't zero, rounded to scale `s`.
+    #[inline(always)]
     pub fn div(self, b: Dec, s: u8, mode: Mode) -> Dec
         requires not_zero { numerator_of b ≢ pos 0 }
         requires fits { QuotientFits mode self b s }
