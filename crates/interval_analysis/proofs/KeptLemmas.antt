@@ -1,6 +1,6 @@
 -- A range as a variable of a type keeps it.
 use Rattle.std.proofs.Common.{◌≡◌, ℕ, ◌-◌, ◌≤◌, Bool, true, false, ◌&&◌, nat_le, ℤ, ◌*ℤ◌, List, Some, None, Ok, refl, sym, ap, ◌∙◌, subst, arith}
-use Rattle.std.specs.Prelude.{Result, Err, OnOk, unsigned_abs, slice_get}
+use Rattle.std.specs.Prelude.{unsigned_abs, slice_get}
 use Rattle.std.specs.Int.{w128}
 use Rattle.std.specs.Option.{option_map_or}
 use Rattle.std.proofs.Common.{to_z, of_z, set, inl, inr}
@@ -27,7 +27,7 @@ use Rattle.interval_walk.specs.Ranges.{Ranges, single, put_range}
 use Rattle.interval_walk.specs.NodeRanges.{leaf_range}
 use Rattle.interval_walk.specs.Ranged.{ranged}
 use Rattle.interval_walk.proofs.Laws.{leaf_shape, passed_node}
-use Rattle.interval_walk.specs.Walked.{range_kept_as, assigned_range}
+use Rattle.interval_walk.specs.Walked.{range_kept_as, kept_range, assigned_range}
 use Rattle.pap_types.specs.private.ScopeViews.{scope_in, variables_in}
 use Rattle.interval_analysis.specs.private.PlanViews.{IsSized, kind_at, ranges_in}
 use Rattle.interval_analysis.proofs.NameLemmas.{number_in, put_by, put_none}
@@ -130,8 +130,6 @@ put_kept p rs x a kept i sized number is =
 pub put_nothing : (p : PlanText) (rs : List Interval) (x : List ℕ) (a : Interval) → IsSized p rs → None ≡ number_of (variables_in p) x → ranges_in p rs ≡ assigned_range (scope_in p) x a (ranges_in p rs)
 put_nothing p rs x a sized number = sym (put_none (variables_in p) rs x (option_map_or (λ d. range_kept_as d.kind a) (declared_as (scope_in p).variables x) a) sized (sym number))
 
--- so it is where it is put
-pub put_done : {E : Type 0} (p : PlanText) (rs new : List Interval) (x : List ℕ) (a kept : Interval) (i : ℕ) (r : Result (Unit {0}) E) → IsSized p rs → Some i ≡ number_of (variables_in p) x → kept ≡ option_map_or (λ d. range_kept_as d.kind a) (declared_as (scope_in p).variables x) a
-    → OnOk r (new ≡ set rs i kept) → OnOk r (ranges_in p new ≡ assigned_range (scope_in p) x a (ranges_in p rs))
-put_done p rs new x a kept i (Ok u) sized number is h = ap (ranges_in p) h ∙ put_kept p rs x a kept i sized number is
-put_done p rs new x a kept i (Err e) sized number is h = tt
+-- what has no variable's number is declared by no variable, and is kept as it is
+pub kept_nothing : (p : PlanText) (x : List ℕ) (a : Interval) → None ≡ number_of (variables_in p) x → a ≡ kept_range (scope_in p) x a
+kept_nothing p x a number = ap (λ o. option_map_or (λ d. range_kept_as d.kind a) o a) (declared_by (scope_in p).variables x (variables_in p) None refl number)

@@ -14,6 +14,7 @@ pub mod NodeLemmas
 pub mod NoteLemmas
 pub mod OutputLemmas
 pub mod PartLemmas
+pub mod RangeLemmas
 pub mod RepeatLemmas
 pub mod StartLemmas
 pub mod StatementLemmas

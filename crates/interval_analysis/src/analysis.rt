@@ -1,16 +1,17 @@
 //! The analysis of a plan.
-ghost use Rattle.std.specs.Prelude.{◌≡◌, ◌≤◌, IfOk, IfErr, Ok, OnOk, List, map};
+ghost use Rattle.std.specs.Prelude.{◌≡◌, ◌≤◌, IfOk, IfErr, IfSome, IsSome, Ok, OnOk, List, map};
 ghost use Rattle.scaled_decimal.specs.Decimals.{Decimal};
 ghost use Rattle.pap_tree.specs.Flowchart.{flowchart_of};
 ghost use Rattle.pap_types.specs.Meaning.{bound_of, cost_of};
+ghost use Rattle.pap_types.specs.Scopes.{scope_of};
 ghost use Rattle.call_order.specs.Orders.{IsOrdered};
 ghost use Rattle.interval_walk.specs.Admission.{HaveLimits, AreAdmitted};
 ghost use Rattle.interval_walk.specs.Analysis.{analysed};
 ghost use Rattle.interval_walk.specs.Soundness.{RunHolds};
 ghost use Rattle.interval_analysis.specs.Answers.{named_range, IsWalkFaultOrMemory};
-ghost use Rattle.interval_analysis.specs.Surveys.{AreReached, HaveExecuted};
+ghost use Rattle.interval_analysis.specs.Surveys.{AreLeastRanges, AreOpen, AreReached, HaveExecuted, HavePut, HaveTaken};
 ghost use Rattle.interval_analysis.specs.private.OutputViews.{OutputAnswer};
-ghost use Rattle.interval_analysis.specs.private.VisitViews.{Marks};
+ghost use Rattle.interval_analysis.specs.private.VisitViews.{Gathers, SaysKnown};
 ghost use Rattle.interval_walk.specs.Visits.{WalkComes};
 
 use crate::bounds::bound_of;
@@ -66,8 +67,10 @@ pub fn analyse(
     Ok(Verdict { bound, outputs })
 }
 
-/// Walks a plan as [`analyse`] does, with the same answers, and tells to which statements the walk came. Every statement that a run on
-/// admitted inputs executes is among them, so no such run executes another.
+/// Walks a plan as [`analyse`] does, with the same answers, and tells to which statements the walk came, the least range of what each
+/// EVAL put there, and which exits of IFs were open. Every statement that a run on admitted inputs executes is among them, each
+/// value that it puts lies in the statement's range, and each exit that it takes is open; so no such run executes another
+/// statement or takes another exit.
 ///
 /// Takes time as `analyse`, with a factor logarithmic in the number of statements at each statement that is walked, and memory
 /// linear in that number beside what `analyse` takes.
@@ -84,9 +87,13 @@ pub fn survey(
     ensures bound { IfOk result (λ s. s.verdict.bound ≡ bound_of (flowchart_of t.now)) }
     ensures fault { IfErr result (IsWalkFaultOrMemory (flowchart_of t.now) limits.now) }
     ensures reached { IfOk result (λ s. AreReached (flowchart_of t.now) limits.now s.reached) }
+    ensures values { IfOk result (λ s. AreLeastRanges (flowchart_of t.now) limits.now s.values) }
+    ensures exits { IfOk result (λ s. AreOpen (flowchart_of t.now) limits.now s.exits) }
     ensures sound { IfOk result (λ s. (inputs : List Decimal)
         → AreAdmitted (flowchart_of t.now) limits.now inputs
-        → HaveExecuted (flowchart_of t.now) inputs s.reached) }
+        → HaveExecuted (flowchart_of t.now) inputs s.reached
+        × HavePut (flowchart_of t.now) inputs s.values
+        × HaveTaken (flowchart_of t.now) inputs s.exits) }
 {
     // For the proof: the plan is well typed, and its nodes and statements are counted.
     let _well_typed = t.plan();
@@ -94,9 +101,22 @@ pub fn survey(
     let mut visits = Visits::new(alloc);
     let outputs = walked_outputs(alloc, t, &weights, limits, &mut visits)?;
     let bound = bound_of(alloc, t, order)?;
-    let verdict = Verdict { bound, outputs };
-    match visits.places {
-        Some(reached) => Ok(Survey { verdict, reached }),
+    Ok(survey_of(Verdict { bound, outputs }, visits))
+}
+
+/// What is known behind a walk of which it was kept.
+fn survey_of(verdict: Verdict, visits: Visits) -> Survey
+    requires { IsSome visits.known }
+    ensures verdict { result.verdict ≡ verdict }
+    ensures known { IfSome visits.known (λ known. SaysKnown known result) }
+{
+    match visits.known {
+        Some(known) => Survey {
+            verdict,
+            reached: known.reached,
+            values: known.values,
+            exits: known.exits,
+        },
         None => unreachable!(),
     }
 }
@@ -111,7 +131,7 @@ fn walked_outputs(
 ) -> Result<Vec<OutputRange>, RangeFault>
     requires { HaveLimits (flowchart_of plan.now) limits.now }
     ensures outputs { OutputAnswer (analysed (flowchart_of plan.now) limits.now) result }
-    ensures visits { OnOk result (Marks (WalkComes (flowchart_of plan.now) limits.now)
+    ensures visits { OnOk result (Gathers (scope_of (flowchart_of plan.now)) (WalkComes (flowchart_of plan.now) limits.now)
         visits.old visits.new) }
 {
     let ranges = start_ranges(alloc, plan, limits)?;

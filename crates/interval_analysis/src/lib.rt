@@ -21,6 +21,7 @@ mod shapes;
 mod start;
 mod statements;
 mod tables;
+mod value_range;
 mod variables;
 mod verdict;
 mod visits;
@@ -28,4 +29,5 @@ mod weights;
 
 pub use analysis::{analyse, survey};
 pub use fault::RangeFault;
+pub use value_range::ValueRange;
 pub use verdict::{OutputRange, Survey, Verdict};

@@ -1,14 +1,16 @@
 //! The walk of statements.
-ghost use Rattle.std.specs.Prelude.{◌≡◌, IfSome, OnOk, slice_get};
+ghost use Rattle.std.specs.Prelude.{◌≡◌, IfOk, IfSome, OnOk, slice_get};
 ghost use Rattle.std.specs.Option.{option_map};
-ghost use Rattle.pap_tree.specs.Flowchart.{routine_of, body_of, stmt_then, done};
+ghost use Rattle.pap_tree.specs.Flowchart.{routine_of, body_of, stmt_then, eval, done};
+ghost use Rattle.pap_tree.specs.Term.{term_of};
+ghost use Rattle.pap_types.specs.private.ScopeViews.{scope_in};
 ghost use Rattle.pap_types.specs.Checks.{place};
 ghost use Rattle.pap_types.specs.Routines.{body_named};
-ghost use Rattle.interval_walk.specs.Walked.{range_kept_as};
+ghost use Rattle.interval_walk.specs.Walked.{kept_range, range_kept_as};
 ghost use Rattle.interval_analysis.specs.private.Changes.{changed};
 ghost use Rattle.interval_analysis.specs.private.PlanViews.{ranges_in, branches_in};
 ghost use Rattle.interval_analysis.specs.private.VariableViews.{AreHeld, GoesOn};
-ghost use Rattle.interval_analysis.specs.private.VisitViews.{ComesIn, ComesInBoth, ComesInCall, ComesInLists, ComesInside, Marks};
+ghost use Rattle.interval_analysis.specs.private.VisitViews.{ComesIn, ComesInBoth, ComesInCall, ComesInLists, Gathers};
 ghost use Rattle.pap_tree.specs.private.TreeViews.{if_of, methods_in};
 ghost use Rattle.interval_analysis.specs.private.StatementViews.{CanWalkBody, CanWalkLists, CanAssign, CanPut, CanKeep, IsMethodBody, Passes, EnvAnswer, through_body, through_if, through_fork, through_first, through_second, through_both, evaluated, executed, assigned_in, fault_of, first_spot, second_spot};
 
@@ -64,17 +66,15 @@ impl Walk<'_> {
         ensures passes { Passes (through_body self.now spot (body_of body.now) variables.old.ranges.items)
             variables.new.ranges.items result }
         ensures on { GoesOn self.now.plan.now variables.old variables.new }
-        ensures visits { OnOk result (Marks
+        ensures visits { OnOk result (Gathers (scope_in self.now.plan.now)
             (ComesIn self.now spot (body_of body.now)
             (ranges_in self.now.plan.now variables.old.ranges.items))
             visits.old visits.new) }
     {
         let mark = variables.notes.len();
-        let Spot { method, at, .. } = spot;
-        let mut next = at;
+        let mut next = spot.at;
         for stmt in body {
             variables.trim(mark)?;
-            visits.mark(method, next)?;
             next = self.walk_statement(Spot { at: next, ..spot }, stmt, variables, visits)?;
         }
         Ok(next)
@@ -93,19 +93,20 @@ impl Walk<'_> {
         ensures passes { Passes (through_body self.now spot (stmt_then stmt.now done) variables.old.ranges.items)
             variables.new.ranges.items result }
         ensures on { GoesOn self.now.plan.now variables.old variables.new }
-        ensures visits { OnOk result (Marks
-            (ComesInside self.now spot (stmt_then stmt.now done)
+        ensures visits { OnOk result (Gathers (scope_in self.now.plan.now)
+            (ComesIn self.now spot (stmt_then stmt.now done)
             (ranges_in self.now.plan.now variables.old.ranges.items))
             visits.old visits.new) }
     {
         let Spot { at, chain, .. } = spot;
         match stmt {
             Stmt::Eval { target, value } => {
-                self.assign(spot, target, value, variables)?;
+                self.assign(spot, target, value, variables, visits)?;
                 Ok(at + 1)
             }
             Stmt::If { test, yes, no } => self.walk_if(spot, test, yes, no, variables, visits),
             Stmt::Execute { method } => {
+                visits.keep_execute(&spot)?;
                 self.walk_method(method, chain, variables, visits)?;
                 Ok(at + 1)
             }
@@ -120,40 +121,49 @@ impl Walk<'_> {
         target: &Name,
         value: &Expr,
         variables: &mut Variables,
+        visits: &mut Visits,
     ) -> Result<(), RangeFault>
         requires walk { CanAssign self.now target.now value.now }
         requires held { AreHeld self.now.plan.now variables.old }
         ensures passes { EnvAnswer self.now (evaluated self.now spot target.now value.now variables.old.ranges.items)
             variables.new.ranges.items result }
         ensures on { GoesOn self.now.plan.now variables.old variables.new }
+        ensures visits { OnOk result (Gathers (scope_in self.now.plan.now)
+            (ComesIn self.now spot (eval target.now (term_of value.now) done)
+            (ranges_in self.now.plan.now variables.old.ranges.items))
+            visits.old visits.new) }
     {
         match self.range_of(value, 0, variables) {
             Ok(value) => {
-                self.put(target, value.range, variables)?;
+                let kept = self.put(target, value.range, variables)?;
+                visits.keep_eval(&spot, kept)?;
                 Ok(())
             }
             Err(stop) => Err(fault_of(stop, spot)),
         }
     }
 
-    /// Gives a variable a range, as one of its kind keeps it. In a well-typed plan each target is a
+    /// Gives a variable a range, and answers it as one of its kind keeps it. In a well-typed plan each target is a
     /// declared variable, so that the cases without a number or a declaration don't come.
-    fn put(&self, target: &Name, range: Abs, variables: &mut Variables) -> Result<(), AllocError>
+    fn put(&self, target: &Name, range: Abs, variables: &mut Variables) -> Result<Abs, AllocError>
         requires walk { CanPut self.now.plan.now target.now range }
         requires held { AreHeld self.now.plan.now variables.old }
+        ensures kept { IfOk result (λ kept. kept
+            ≡ kept_range (scope_in self.now.plan.now) target.now range) }
         ensures put { OnOk result (ranges_in self.now.plan.now variables.new.ranges.items
             ≡ assigned_in self.now.plan.now target.now range variables.old.ranges.items) }
         ensures on { GoesOn self.now.plan.now variables.old variables.new }
     {
         let typed = self.plan.typed();
         let Some(number) = typed.variable(target) else {
-            return Ok(());
+            return Ok(range);
         };
         let kept = match typed.variable_at(number) {
             Some(declared) => kept_as(declared.kind, range),
             None => range,
         };
-        variables.put(number, kept)
+        variables.put(number, kept)?;
+        Ok(kept)
     }
 
     /// Walks each list that can be reached, and joins the ranges where both can.
@@ -173,13 +183,14 @@ impl Walk<'_> {
         ensures passes { Passes (through_if self.now spot test.now yes.now no.now variables.old.ranges.items)
             variables.new.ranges.items result }
         ensures on { GoesOn self.now.plan.now variables.old variables.new }
-        ensures visits { OnOk result (Marks
-            (ComesInside self.now spot (if_of test.now yes.now no.now)
+        ensures visits { OnOk result (Gathers (scope_in self.now.plan.now)
+            (ComesIn self.now spot (if_of test.now yes.now no.now)
             (ranges_in self.now.plan.now variables.old.ranges.items))
             visits.old visits.new) }
     {
         match self.test(test, 0, variables) {
             Ok(Tested { branches, next }) => {
+                visits.keep_if(&spot, &branches)?;
                 let root = next - 1;
                 let fork = Fork { root, yes, no };
                 self.walk_fork(spot, &fork, branches, variables, visits)
@@ -204,7 +215,7 @@ impl Walk<'_> {
             (branches_in self.now.plan.now variables.old.ranges.items branches))
             variables.new.ranges.items result }
         ensures on { GoesOn self.now.plan.now variables.old variables.new }
-        ensures visits { OnOk result (Marks
+        ensures visits { OnOk result (Gathers (scope_in self.now.plan.now)
             (ComesInLists self.now spot (body_of fork.now.yes.now) (body_of fork.now.no.now)
             (branches_in self.now.plan.now variables.old.ranges.items branches))
             visits.old visits.new) }
@@ -237,7 +248,7 @@ impl Walk<'_> {
         ensures passes { Passes (through_first self.now spot fork.now (changed variables.old.ranges.items held.now))
             variables.new.ranges.items result }
         ensures on { GoesOn self.now.plan.now variables.old variables.new }
-        ensures visits { OnOk result (Marks
+        ensures visits { OnOk result (Gathers (scope_in self.now.plan.now)
             (ComesIn self.now (first_spot spot) (body_of fork.now.yes.now)
             (ranges_in self.now.plan.now (changed variables.old.ranges.items held.now)))
             visits.old visits.new) }
@@ -263,7 +274,7 @@ impl Walk<'_> {
         ensures passes { Passes (through_second self.now spot fork.now (changed variables.old.ranges.items failed.now))
             variables.new.ranges.items result }
         ensures on { GoesOn self.now.plan.now variables.old variables.new }
-        ensures visits { OnOk result (Marks
+        ensures visits { OnOk result (Gathers (scope_in self.now.plan.now)
             (ComesIn self.now (second_spot spot fork.now) (body_of fork.now.no.now)
             (ranges_in self.now.plan.now (changed variables.old.ranges.items failed.now)))
             visits.old visits.new) }
@@ -292,7 +303,7 @@ impl Walk<'_> {
             (changed variables.old.ranges.items changes.now))
             variables.new.ranges.items result }
         ensures on { GoesOn self.now.plan.now variables.old variables.new }
-        ensures visits { OnOk result (Marks
+        ensures visits { OnOk result (Gathers (scope_in self.now.plan.now)
             (ComesIn self.now spot (body_of body.now)
             (ranges_in self.now.plan.now (changed variables.old.ranges.items changes.now)))
             visits.old visits.new) }
@@ -321,7 +332,7 @@ impl Walk<'_> {
             (changed variables.old.ranges.items failed.now))
             variables.new.ranges.items result }
         ensures on { GoesOn self.now.plan.now variables.old variables.new }
-        ensures visits { OnOk result (Marks
+        ensures visits { OnOk result (Gathers (scope_in self.now.plan.now)
             (ComesInBoth self.now spot fork.now
             (changed variables.old.ranges.items held.now)
             (changed variables.old.ranges.items failed.now))
@@ -357,7 +368,7 @@ impl Walk<'_> {
             (changed variables.old.ranges.items failed.now))
             variables.new.ranges.items result }
         ensures on { GoesOn self.now.plan.now variables.old variables.new }
-        ensures visits { OnOk result (Marks
+        ensures visits { OnOk result (Gathers (scope_in self.now.plan.now)
             (ComesInBoth self.now spot fork.now
             (changed variables.old.ranges.items held.now)
             (changed variables.old.ranges.items failed.now))
@@ -397,7 +408,7 @@ impl Walk<'_> {
             (changed variables.old.ranges.items failed.now))
             variables.new.ranges.items result }
         ensures on { GoesOn self.now.plan.now variables.old variables.new }
-        ensures visits { OnOk result (Marks
+        ensures visits { OnOk result (Gathers (scope_in self.now.plan.now)
             (ComesInBoth self.now spot fork.now
             (changed variables.old.ranges.items held.now)
             (changed variables.old.ranges.items failed.now))
@@ -435,7 +446,7 @@ impl Walk<'_> {
         ensures passes { EnvAnswer self.now (executed self.now name.now chain variables.old.ranges.items)
             variables.new.ranges.items result }
         ensures on { GoesOn self.now.plan.now variables.old variables.new }
-        ensures visits { OnOk result (Marks
+        ensures visits { OnOk result (Gathers (scope_in self.now.plan.now)
             (ComesInCall self.now name.now chain
             (ranges_in self.now.plan.now variables.old.ranges.items))
             visits.old visits.new) }

@@ -1,8 +1,9 @@
 //! What the analysis answers.
 
+use crate::value_range::ValueRange;
 use interval_num::Abs;
 use pap_tree::Name;
-use std::collections::BTreeSet;
+use std::collections::{BTreeMap, BTreeSet};
 
 /// An output with the range in which its values lie.
 #[derive(Clone, Copy)]
@@ -29,4 +30,8 @@ pub struct Survey {
     pub verdict: Verdict,
     /// The statements to which the walk comes, each by its method and its number there, from 0.
     pub reached: BTreeSet<(Name, u32)>,
+    /// The least range of what each EVAL among them puts at all visits, as its variable keeps it.
+    pub values: BTreeMap<(Name, u32), ValueRange>,
+    /// The exits of IFs that are open at some visit, each by the IF's method, its number there, and whether the test holds.
+    pub exits: BTreeSet<(Name, u32, bool)>,
 }

@@ -1,43 +1,141 @@
-//! The statements to which a walk has come.
-ghost use Rattle.std.specs.Prelude.{◌≡◌, Some, IsNone, OnOk};
-ghost use Rattle.interval_analysis.specs.private.VisitViews.{Marks, IsUnmarked, StandsAt};
+//! What is kept of the statements to which a walk comes.
+ghost use Rattle.std.specs.Prelude.{◌≡◌, ◌⊎◌, Some, IsNone, OnOk};
+ghost use Rattle.std.specs.Option.{option_copied};
+ghost use Rattle.interval_analysis.specs.Surveys.{IsLeastRange};
+ghost use Rattle.interval_analysis.specs.private.VisitViews.{AddsEval, AddsExit, AddsIf, AddsPlace, AddsRange, IsNothingKnown, KeepsEval, KeepsExecute, KeepsIf};
 
+use crate::branches::Branches;
+use crate::statements::Spot;
+use crate::value_range::ValueRange;
+use interval_num::Abs;
 use pap_tree::Name;
 use std::alloc::{AllocError, Global};
-use std::collections::BTreeSet;
+use std::collections::{BTreeMap, BTreeSet};
 
-/// The statements to which a walk has come, each by its method and its number, where that is asked for.
+/// What is known of the statements to which a walk has come, each by its method and its number there.
 #[derive(Drop)]
-pub(crate) struct Visits {
-    pub places: Option<BTreeSet<(Name, u32)>>,
+pub(crate) struct Known {
+    pub reached: BTreeSet<(Name, u32)>,
+    /// The least range of what each EVAL puts.
+    pub values: BTreeMap<(Name, u32), ValueRange>,
+    /// The exits of IFs that are open at some visit, each by whether its test holds there.
+    pub exits: BTreeSet<(Name, u32, bool)>,
 }
 
+impl Known {
+    fn add_eval(&mut self, spot: &Spot, range: Abs) -> Result<(), AllocError>
+        ensures { OnOk result (AddsEval spot.now range self.old self.new) }
+    {
+        self.add_place(spot)?;
+        self.add_range(spot, ValueRange::of(range))
+    }
+
+    fn add_if(&mut self, spot: &Spot, branches: &Branches) -> Result<(), AllocError>
+        ensures { OnOk result (AddsIf spot.now branches.now self.old self.new) }
+    {
+        self.add_place(spot)?;
+        self.add_exit(spot, true, branches.holds.is_some())?;
+        self.add_exit(spot, false, branches.fails.is_some())
+    }
+
+    fn add_place(&mut self, spot: &Spot) -> Result<(), AllocError>
+        ensures { OnOk result (AddsPlace spot.now self.old self.new) }
+    {
+        self.reached.insert((spot.method, spot.at))?;
+        Ok(())
+    }
+
+    /// Joins the range of an EVAL with another.
+    fn add_range(&mut self, spot: &Spot, range: ValueRange) -> Result<(), AllocError>
+        ensures { OnOk result (AddsRange spot.now range self.old self.new) }
+    {
+        let place = (spot.method, spot.at);
+        let kept = joined_with(self.values.get(&place), range);
+        self.values.insert(place, kept)?;
+        Ok(())
+    }
+
+    /// Adds an exit of an IF, if it is open.
+    fn add_exit(&mut self, spot: &Spot, holds: bool, is_open: bool) -> Result<(), AllocError>
+        ensures { OnOk result (AddsExit spot.now holds is_open self.old self.new) }
+    {
+        if !is_open {
+            return Ok(());
+        }
+        self.exits.insert((spot.method, spot.at, holds))?;
+        Ok(())
+    }
+}
+
+/// The least range in which a range and what is known lie.
+fn joined_with(known: Option<&ValueRange>, range: ValueRange) -> ValueRange
+    ensures { IsLeastRange (λ r. (option_copied known.entry ≡ Some r) ⊎ (range ≡ r)) result }
+{
+    match known {
+        Some(known) => known.joined(range),
+        None => range,
+    }
+}
+
+/// The statements to which a walk has come, where that is asked for.
+#[derive(Drop)]
+pub(crate) struct Visits {
+    pub known: Option<Known>,
+}
+
+// What the walk calls is out of line, and takes references, so that the walk, which is as deep as statements are nested, needs less
+// of the stack.
 impl Visits {
     /// Nothing is kept.
     pub fn unasked() -> Visits
-        ensures { IsNone result.places }
+        ensures { IsNone result.known }
     {
-        Visits { places: None }
+        Visits { known: None }
     }
 
     /// What is kept of a walk that has come nowhere yet.
     pub fn new(alloc: Global) -> Visits
-        ensures { IsUnmarked result }
+        ensures { IsNothingKnown result }
     {
         Visits {
-            places: Some(BTreeSet::new(alloc)),
+            known: Some(Known {
+                reached: BTreeSet::new(alloc),
+                values: BTreeMap::new(alloc),
+                exits: BTreeSet::new(alloc),
+            }),
         }
     }
 
-    /// Keeps that the walk has come to a statement.
-    // Out of line, so that the walk, which is as deep as statements are nested, needs less of the stack.
+    /// Keeps that the walk has come to an EVAL, and the range that this puts, as its variable keeps it.
     #[inline(never)]
-    pub fn mark(&mut self, method: Name, number: u32) -> Result<(), AllocError>
-        ensures { OnOk result (Marks (StandsAt method number) self.old self.new) }
+    pub fn keep_eval(&mut self, spot: &Spot, range: Abs) -> Result<(), AllocError>
+        ensures { OnOk result (KeepsEval spot.now range self.old self.new) }
     {
-        if let Some(places) = &mut self.places {
-            places.insert((method, number))?;
+        match &mut self.known {
+            Some(known) => known.add_eval(spot, range),
+            None => Ok(()),
         }
-        Ok(())
+    }
+
+    /// Keeps that the walk has come to an IF, and which of its exits the branches of its test leave open.
+    #[inline(never)]
+    pub fn keep_if(&mut self, spot: &Spot, branches: &Branches) -> Result<(), AllocError>
+        ensures { OnOk result (KeepsIf spot.now branches.now self.old self.new) }
+    {
+        match &mut self.known {
+            Some(known) => known.add_if(spot, branches),
+            None => Ok(()),
+        }
+    }
+
+    /// Keeps that the walk has come to an EXECUTE.
+    #[inline(never)]
+    pub fn keep_execute(&mut self, spot: &Spot) -> Result<(), AllocError>
+        ensures { OnOk result (KeepsExecute spot.now self.old self.new) }
+    {
+        match &mut self.known {
+            Some(known) => known.add_place(spot),
+            None => Ok(()),
+        }
     }
 }

@@ -1,31 +1,32 @@
 -- The walk comes to each statement that a run executes.
-use Rattle.std.proofs.Common.{◌≡◌, ℕ, zero, suc, ◌+◌, List, Bool, true, false, Option, Some, None, Result, Ok, Err, ◌⊎◌, inl, inr, refl, sym, ap, ◌∙◌, subst}
-use Rattle.std.specs.Prelude.{All, IsSomeAnd, IsOkAnd}
+use Rattle.std.proofs.Common.{◌≡◌, ℕ, zero, suc, ◌+◌, List, Bool, true, false, if◌then◌else◌, Option, Some, None, Result, Ok, ◌⊎◌, inl, inr, refl, sym, ap, ◌∙◌, subst}
+use Rattle.std.specs.Prelude.{All, IsSome, IsSomeAnd, IsOkAnd, not}
 use Rattle.scaled_decimal.specs.Decimals.{Decimal}
 use Rattle.pap_tree.specs.Term.{Term}
 use Rattle.pap_tree.specs.Flowchart.{Body, done, eval, branch, execute, Routine}
 use Rattle.pap_tree.specs.Names.{main_name}
 use Rattle.pap_tree.specs.Statements.{written}
 use Rattle.interval_num.specs.declared.cause.RangeCause.TheVariants.{Wide}
+use Rattle.interval_num.specs.Intervals.{Interval, Contains}
 use Rattle.pap_types.specs.Scopes.{Scope, scope_of}
 use Rattle.pap_types.specs.Routines.{body_named}
 use Rattle.pap_types.specs.Limits.{longest_chain}
 use Rattle.pap_types.specs.Checks.{place, last_node}
-use Rattle.pap_types.specs.Typing.{IsTypedBody}
+use Rattle.pap_types.specs.Typing.{IsTypedBody, TargetSuits}
 use Rattle.pap_types.specs.Counts.{AreSmallTerms}
 use Rattle.pap_types.specs.Meaning.{calls_in, start}
 use Rattle.pap_types.specs.Operations.{is_zero}
 use Rattle.pap_types.specs.Values.{Env, value}
 use Rattle.pap_types.specs.Runs.{Calls, assigned, after, calls_of}
 use Rattle.pap_types.proofs.Laws.{has_types}
-use Rattle.interval_walk.specs.Ranges.{Ranges, names_in}
+use Rattle.interval_walk.specs.Ranges.{Ranges}
 use Rattle.interval_walk.specs.Failures.{WalkFault, node_fails, and_then, at_stmt}
 use Rattle.interval_walk.specs.Branches.{Branches, either_way}
 use Rattle.interval_walk.specs.Ranged.{ranged, tested}
-use Rattle.interval_walk.specs.Walked.{assigned_range, RangeCalls, walked, with_body, range_calls_of}
+use Rattle.interval_walk.specs.Walked.{kept_range, assigned_range, RangeCalls, walked, with_body, range_calls_of}
 use Rattle.interval_walk.specs.Analysis.{start_ranges, range_calls_in, output_ranges, unless_unbounded}
-use Rattle.interval_walk.specs.Soundness.{AreWithin}
-use Rattle.interval_walk.specs.Visits.{Visit, BodyComes, CallsCome, WalkComes, Execution, BodyExecutes, CallsExecute, IsVisited, ExecutedAreVisited}
+use Rattle.interval_walk.specs.Soundness.{AreWithin, TestHolds}
+use Rattle.interval_walk.specs.Visits.{Visit, BodyComes, CallsCome, Execution, BodyExecutes, CallsExecute, kept_value, IsForeseen, IsVisited, ExecutedAreVisited}
 use Rattle.interval_walk.specs.private.Soundness.{AreVariables}
 use Rattle.interval_walk.proofs.NodeShapes.{stepped}
 use Rattle.interval_walk.proofs.ScopeLemmas.{IsSoundScope}
@@ -34,7 +35,7 @@ use Rattle.interval_walk.proofs.EnvLemmas.{variables_put}
 use Rattle.interval_walk.proofs.StartSound.{start_inside, start_variables}
 use Rattle.interval_walk.proofs.TermSound.{term_sound, test_sound}
 use Rattle.interval_walk.proofs.NameLemmas.{tested_named, passed_stmt, meet, walked_named}
-use Rattle.interval_walk.proofs.WalkSound.{CallsHold, assigned_inside, took_first, took_second, found_method, body_sound, calls_hold}
+use Rattle.interval_walk.proofs.WalkSound.{CallsHold, kept_within, assigned_inside, took_first, took_second, found_method, body_sound, calls_hold}
 
 -- ---- steps
 
@@ -54,22 +55,58 @@ alone_step : (r : Result Branches WalkFault) (br : Branches) (go : Branches → 
 alone_step r br go mid e f = rw (e, f) refl
 
 -- a visit among some is one among more
-wider : (Few Many : Visit → Type 0) (x : Execution) → ((v : Visit) → Few v → Many v) → IsVisited Few x → IsVisited Many x
-wider Few Many x go h = record {
+wider : (scope : Scope) (Few Many : Visit → Type 0) (x : Execution) → ((v : Visit) → Few v → Many v) → IsVisited scope Few x → IsVisited scope Many x
+wider scope Few Many x go h = record {
   visit = h.visit;
   comes = go h.visit h.comes;
   method = h.method;
   number = h.number;
+  statement = h.statement;
   inside = h.inside;
+  foreseen = h.foreseen;
 }
 
 -- the execution of a statement at which the walk stands
-here : (name : List ℕ) (at : ℕ) (rs : Ranges) (env : Env) (x : Execution) → AreWithin rs env
-    → x ≡ record { method = name; number = at; variables = env }
-    → IsVisited (λ v. v ≡ record { method = name; number = at; ranges = rs }) x
-here name at rs env x w e =
-    subst (IsVisited (λ v. v ≡ record { method = name; number = at; ranges = rs })) (sym e)
-    (record { visit = record { method = name; number = at; ranges = rs }; comes = refl; method = refl; number = refl; inside = w })
+here : (scope : Scope) (name : List ℕ) (at : ℕ) (s : Body) (rs : Ranges) (env : Env) (x : Execution) → AreWithin rs env
+    → IsForeseen scope (record { method = name; number = at; statement = s; ranges = rs }) (record { method = name; number = at; statement = s; variables = env })
+    → x ≡ record { method = name; number = at; statement = s; variables = env }
+    → IsVisited scope (λ v. v ≡ record { method = name; number = at; statement = s; ranges = rs }) x
+here scope name at s rs env x w f e =
+    subst (IsVisited scope (λ v. v ≡ record { method = name; number = at; statement = s; ranges = rs })) (sym e)
+    (record { visit = record { method = name; number = at; statement = s; ranges = rs }; comes = refl; method = refl; number = refl; statement = refl; inside = w; foreseen = f })
+
+-- ---- what is foreseen
+
+module _ (scope : Scope) (name : List ℕ) (at : ℕ) (rs : Ranges) (env : Env) where
+  abbrev Foresees : Body → Type 0
+  Foresees s = IsForeseen scope (record { method = name; number = at; statement = s; ranges = rs }) (record { method = name; number = at; statement = s; variables = env })
+
+  -- the value of an EVAL that is kept lies in the range that is kept
+  eval_foreseen : (y : List ℕ) (t : Term) (a : Interval) (d : Decimal) → TargetSuits scope y t → ranged scope t 0 rs ≡ Ok a → value scope t env ≡ Some d → Contains a d → Foresees (eval y t done)
+  eval_foreseen y t a d suits ran gives inside = record {
+    puts = λ v p.
+        let same = of_some (value scope t env) d (λ d. v ≡ kept_value scope y d) gives p in
+        record {
+          range = kept_range scope y a;
+          puts = behind (ranged scope t 0 rs) a (λ r. kept_range scope y a ≡ kept_range scope y r) ran refl;
+          inside = subst (Contains (kept_range scope y a)) (sym same) (kept_within scope y t rs a d suits ran inside);
+        };
+    takes = λ holds p. absurd p;
+  }
+
+  -- the exit that an IF takes can be reached
+  branch_foreseen : (t : Term) (a b : Body) (br : Branches) → tested scope t 0 rs ≡ Ok br → TestHolds scope t env br → Foresees (branch t a b done)
+  branch_foreseen t a b br ran h = record {
+    puts = λ v p. absurd p;
+    takes = λ holds p. behind (tested scope t 0 rs) br (λ br. IsSome (if holds then br.holds else br.fails)) ran (by_exit holds (of_some (value scope t env) h.gives (λ d. is_zero d ≡ not holds) h.is p));
+  }
+    where
+      by_exit : (holds : Bool) → is_zero h.gives ≡ not holds → IsSome (if holds then br.holds else br.fails)
+      by_exit true e = subst IsSome (sym (h.holds e).is) refl
+      by_exit false e = subst IsSome (sym (h.fails e).is) refl
+
+  execute_foreseen : (m : List ℕ) → Foresees (execute m done)
+  execute_foreseen m = record { puts = λ v p. absurd p; takes = λ holds p. absurd p }
 
 -- ---- statements
 
@@ -79,7 +116,7 @@ module _ (scope : Scope) (ok : IsSoundScope scope) (methods : List Routine) wher
       (CallExecutes : List ℕ → Env → Execution → Type 0) → Type 0
   CallsAreVisited calls call CallComes CallExecutes =
       (m : List ℕ) (rs z : Ranges) (env : Env) (x : Execution) → AreWithin rs env → AreVariables scope env
-      → call m rs ≡ Ok z → CallExecutes m env x → IsVisited (CallComes m rs) x
+      → call m rs ≡ Ok z → CallExecutes m env x → IsVisited scope (CallComes m rs) x
 
   module _ (calls : Calls) (call : RangeCalls) (CallComes : List ℕ → Ranges → Visit → Type 0)
       (CallExecutes : List ℕ → Env → Execution → Type 0) (hc : CallsHold scope ok methods calls call)
@@ -118,7 +155,7 @@ module _ (scope : Scope) (ok : IsSoundScope scope) (methods : List Routine) wher
         }
 
     -- where the run takes the first list of an IF, the walk comes to what it executes there; so of the second
-    first_visited : (t : Term) (a b rest : Body) (at : ℕ) (rs z : Ranges) (env : Env) → AreWithin rs env → AreVariables scope env → IsTypedBody scope methods (branch t a b rest) → AreSmallTerms (branch t a b rest) → IsPassed t a b rest at rs z → (d : Decimal) → value scope t env ≡ Some d → is_zero d ≡ false → ((s u : Ranges) → AreWithin s env → walked scope call name (at + 1) a s ≡ Ok u → IsVisited (Comes (at + 1) a s) x) → IsVisited (Comes at (branch t a b rest) rs) x
+    first_visited : (t : Term) (a b rest : Body) (at : ℕ) (rs z : Ranges) (env : Env) → AreWithin rs env → AreVariables scope env → IsTypedBody scope methods (branch t a b rest) → AreSmallTerms (branch t a b rest) → IsPassed t a b rest at rs z → (d : Decimal) → value scope t env ≡ Some d → is_zero d ≡ false → ((s u : Ranges) → AreWithin s env → walked scope call name (at + 1) a s ≡ Ok u → IsVisited scope (Comes (at + 1) a s) x) → IsVisited scope (Comes at (branch t a b rest) rs) x
     first_visited t a b rest at rs z env w only typed small p d is y ih =
         let node = last_node t in
         let none = node_fails (place name at node) Wide in
@@ -131,11 +168,11 @@ module _ (scope : Scope) (ok : IsSoundScope scope) (methods : List Routine) wher
         let m : either_way none first second (meet name at node) (Some l.ranges) p.branches.fails ≡ Ok p.mid = subst (λ o. either_way none first second (meet name at node) o p.branches.fails ≡ Ok p.mid) l.is p.meets in
         let k = took_first name at node none first second p.mid p.branches.fails l.ranges m in
         let i = ih l.ranges k.ends l.inside k.is in
-        wider (Comes (at + 1) a l.ranges) (Comes at (branch t a b rest) rs) x
+        wider scope (Comes (at + 1) a l.ranges) (Comes at (branch t a b rest) rs) x
         (λ v c. inr (inl (behind (tested scope t 0 rs) p.branches (λ br. IsSomeAnd br.holds (λ s. Comes (at + 1) a s v) ⊎ IsSomeAnd br.fails (λ s. Comes (at + 1 + written a) b s v)) p.tested_is
         (inl (some_of p.branches.holds l.ranges (λ s. Comes (at + 1) a s v) l.is c))))) i
 
-    second_visited : (t : Term) (a b rest : Body) (at : ℕ) (rs z : Ranges) (env : Env) → AreWithin rs env → AreVariables scope env → IsTypedBody scope methods (branch t a b rest) → AreSmallTerms (branch t a b rest) → IsPassed t a b rest at rs z → (d : Decimal) → value scope t env ≡ Some d → is_zero d ≡ true → ((s u : Ranges) → AreWithin s env → walked scope call name (at + 1 + written a) b s ≡ Ok u → IsVisited (Comes (at + 1 + written a) b s) x) → IsVisited (Comes at (branch t a b rest) rs) x
+    second_visited : (t : Term) (a b rest : Body) (at : ℕ) (rs z : Ranges) (env : Env) → AreWithin rs env → AreVariables scope env → IsTypedBody scope methods (branch t a b rest) → AreSmallTerms (branch t a b rest) → IsPassed t a b rest at rs z → (d : Decimal) → value scope t env ≡ Some d → is_zero d ≡ true → ((s u : Ranges) → AreWithin s env → walked scope call name (at + 1 + written a) b s ≡ Ok u → IsVisited scope (Comes (at + 1 + written a) b s) x) → IsVisited scope (Comes at (branch t a b rest) rs) x
     second_visited t a b rest at rs z env w only typed small p d is y ih =
         let node = last_node t in
         let none = node_fails (place name at node) Wide in
@@ -149,14 +186,18 @@ module _ (scope : Scope) (ok : IsSoundScope scope) (methods : List Routine) wher
         let m : either_way none first second (meet name at node) p.branches.holds (Some l.ranges) ≡ Ok p.mid = subst (λ o. either_way none first second (meet name at node) p.branches.holds o ≡ Ok p.mid) l.is p.meets in
         let k = took_second name at node none first second p.mid rs p.branches.holds l.ranges n.holds (n.fails l.ranges l.is) (λ s u g. walked_named scope call name hc.named a (at + 1) s u g) (λ s u g. walked_named scope call name hc.named b (at + 1 + written a) s u g) m in
         let i = ih l.ranges k.ends l.inside k.is in
-        wider (Comes (at + 1 + written a) b l.ranges) (Comes at (branch t a b rest) rs) x
+        wider scope (Comes (at + 1 + written a) b l.ranges) (Comes at (branch t a b rest) rs) x
         (λ v c. inr (inl (behind (tested scope t 0 rs) p.branches (λ br. IsSomeAnd br.holds (λ s. Comes (at + 1) a s v) ⊎ IsSomeAnd br.fails (λ s. Comes (at + 1 + written a) b s v)) p.tested_is
         (inr (some_of p.branches.fails l.ranges (λ s. Comes (at + 1 + written a) b s v) l.is c))))) i
 
-    pub body_visited : (b : Body) (at : ℕ) (rs z : Ranges) (env : Env) → AreWithin rs env → AreVariables scope env → IsTypedBody scope methods b → AreSmallTerms b → walked scope call name at b rs ≡ Ok z → Executes at b env → IsVisited (Comes at b rs) x
+    pub body_visited : (b : Body) (at : ℕ) (rs z : Ranges) (env : Env) → AreWithin rs env → AreVariables scope env → IsTypedBody scope methods b → AreSmallTerms b → walked scope call name at b rs ≡ Ok z → Executes at b env → IsVisited scope (Comes at b rs) x
     body_visited done at rs z env w only typed small e ex = absurd ex
     body_visited (eval y t rest) at rs z env w only typed small e (inl ex) =
-        wider _ (Comes at (eval y t rest) rs) x (λ v c. inl c) (here name at rs env x w ex)
+        let s = stepped (at_stmt name at (ranged scope t 0 rs)) (λ a. walked scope call name (at + 1) rest (assigned_range scope y a rs)) z e in
+        let ran = passed_stmt name at (ranged scope t 0 rs) s.0 s.1 in
+        let h = term_sound scope ok env only t 0 rs s.0 w typed.0 small.0.scales ran in
+        wider scope _ (Comes at (eval y t rest) rs) x (λ v c. inl c)
+        (here scope name at (eval y t done) rs env x w (eval_foreseen scope name at rs env y t s.0 h.gives typed.1 ran h.is h.inside) ex)
     body_visited (eval y t rest) at rs z env w only typed small e (inr ex) =
         let s = stepped (at_stmt name at (ranged scope t 0 rs)) (λ a. walked scope call name (at + 1) rest (assigned_range scope y a rs)) z e in
         let ran = passed_stmt name at (ranged scope t 0 rs) s.0 s.1 in
@@ -164,10 +205,13 @@ module _ (scope : Scope) (ok : IsSoundScope scope) (methods : List Routine) wher
         let next = assigned_inside scope y t rs env s.0 h.gives typed.1 ran h.inside w in
         let later = of_some (value scope t env) h.gives (λ d. Executes (at + 1) rest (assigned scope y d env)) h.is ex in
         let k = body_visited rest (at + 1) (assigned_range scope y s.0 rs) z (assigned scope y h.gives env) next (variables_put scope env y _ only) typed.2 small.1 s.2 later in
-        wider (Comes (at + 1) rest (assigned_range scope y s.0 rs)) (Comes at (eval y t rest) rs) x
+        wider scope (Comes (at + 1) rest (assigned_range scope y s.0 rs)) (Comes at (eval y t rest) rs) x
         (λ v c. inr (behind (ranged scope t 0 rs) s.0 (λ a. Comes (at + 1) rest (assigned_range scope y a rs) v) ran c)) k
     body_visited (branch t a b rest) at rs z env w only typed small e (inl ex) =
-        wider _ (Comes at (branch t a b rest) rs) x (λ v c. inl c) (here name at rs env x w ex)
+        let p = is_passed t a b rest at rs z e in
+        let h = test_sound scope ok env only t 0 rs p.branches w typed.0 small.0.scales p.tested_is in
+        wider scope _ (Comes at (branch t a b rest) rs) x (λ v c. inl c)
+        (here scope name at (branch t a b done) rs env x w (branch_foreseen scope name at rs env t a b p.branches p.tested_is h) ex)
     body_visited (branch t a b rest) at rs z env w only typed small e (inr (inl ex)) =
         let p = is_passed t a b rest at rs z e in
         let h = test_sound scope ok env only t 0 rs p.branches w typed.0 small.0.scales p.tested_is in
@@ -176,9 +220,9 @@ module _ (scope : Scope) (ok : IsSoundScope scope) (methods : List Routine) wher
         (λ s u env1 ex g. body_visited b (at + 1 + written a) s u env env1 only typed.3 small.2 g ex)
       where
         by_way : (d : Decimal) → value scope t env ≡ Some d → IsPassed t a b rest at rs z → ((is_zero d ≡ false) × Executes (at + 1) a env) ⊎ ((is_zero d ≡ true) × Executes (at + 1 + written a) b env)
-            → ((s u : Ranges) → AreWithin s env → Executes (at + 1) a env → walked scope call name (at + 1) a s ≡ Ok u → IsVisited (Comes (at + 1) a s) x)
-            → ((s u : Ranges) → AreWithin s env → Executes (at + 1 + written a) b env → walked scope call name (at + 1 + written a) b s ≡ Ok u → IsVisited (Comes (at + 1 + written a) b s) x)
-            → IsVisited (Comes at (branch t a b rest) rs) x
+            → ((s u : Ranges) → AreWithin s env → Executes (at + 1) a env → walked scope call name (at + 1) a s ≡ Ok u → IsVisited scope (Comes (at + 1) a s) x)
+            → ((s u : Ranges) → AreWithin s env → Executes (at + 1 + written a) b env → walked scope call name (at + 1 + written a) b s ≡ Ok u → IsVisited scope (Comes (at + 1 + written a) b s) x)
+            → IsVisited scope (Comes at (branch t a b rest) rs) x
         by_way d is p (inl y) ha hb = first_visited t a b rest at rs z env w only typed small p d is y.0 (λ s u i g. ha s u i y.1 g)
         by_way d is p (inr n) ha hb = second_visited t a b rest at rs z env w only typed small p d is n.0 (λ s u i g. hb s u i n.1 g)
     body_visited (branch t a b rest) at rs z env w only typed small e (inr (inr ex)) =
@@ -186,19 +230,20 @@ module _ (scope : Scope) (ok : IsSoundScope scope) (methods : List Routine) wher
         let k = body_sound scope ok methods calls call hc name (branch t a b done) at rs p.mid env w only (typed.0, typed.1, typed.2, typed.3, tt) (small.0, small.1, small.2, tt) p.alone in
         let later = of_some (after scope calls (branch t a b done) env) k.ends (Executes (at + 1 + written a + written b) rest) k.is ex in
         let i = body_visited rest (at + 1 + written a + written b) p.mid z k.ends k.inside k.only typed.4 small.3 p.later later in
-        wider (Comes (at + 1 + written a + written b) rest p.mid) (Comes at (branch t a b rest) rs) x
+        wider scope (Comes (at + 1 + written a + written b) rest p.mid) (Comes at (branch t a b rest) rs) x
         (λ v c. inr (inr (behind (walked scope call name at (branch t a b done) rs) p.mid (λ r. Comes (at + 1 + written a + written b) rest r v) p.alone c))) i
     body_visited (execute m rest) at rs z env w only typed small e (inl ex) =
-        wider _ (Comes at (execute m rest) rs) x (λ v c. inl c) (here name at rs env x w ex)
+        wider scope _ (Comes at (execute m rest) rs) x (λ v c. inl c)
+        (here scope name at (execute m done) rs env x w (execute_foreseen scope name at rs env m) ex)
     body_visited (execute m rest) at rs z env w only typed small e (inr (inl ex)) =
         let s = stepped (call m rs) (walked scope call name (at + 1) rest) z e in
-        wider (CallComes m rs) (Comes at (execute m rest) rs) x (λ v c. inr (inl c)) (hv m rs s.0 env x w only s.1 ex)
+        wider scope (CallComes m rs) (Comes at (execute m rest) rs) x (λ v c. inr (inl c)) (hv m rs s.0 env x w only s.1 ex)
     body_visited (execute m rest) at rs z env w only typed small e (inr (inr ex)) =
         let s = stepped (call m rs) (walked scope call name (at + 1) rest) z e in
         let h = hc.each m rs s.0 env w only s.1 in
         let later = of_some (calls.after m env) h.ends (Executes (at + 1) rest) h.is ex in
         let k = body_visited rest (at + 1) s.0 z h.ends h.inside h.only typed.1 small s.2 later in
-        wider (Comes (at + 1) rest s.0) (Comes at (execute m rest) rs) x
+        wider scope (Comes (at + 1) rest s.0) (Comes at (execute m rest) rs) x
         (λ v c. inr (inr (behind (call m rs) s.0 (λ r. Comes (at + 1) rest r v) s.1 c))) k
 
   -- the methods, whatever their chain
@@ -210,14 +255,14 @@ module _ (scope : Scope) (ok : IsSoundScope scope) (methods : List Routine) wher
       by_body : CallsAreVisited (calls_of scope methods n) (range_calls_of scope methods n) (CallsCome scope methods n) (CallsExecute scope methods n)
           → (o : Option Body) → body_named methods m ≡ o → with_body m o (λ b. walked scope (range_calls_of scope methods n) m 0 b rs) ≡ Ok z
           → IsSomeAnd o (λ b. BodyExecutes scope (calls_of scope methods n) (CallsExecute scope methods n) m x 0 b env)
-          → IsVisited (λ v. IsSomeAnd (body_named methods m) (λ b. BodyComes scope (range_calls_of scope methods n) (CallsCome scope methods n) m v 0 b rs)) x
+          → IsVisited scope (λ v. IsSomeAnd (body_named methods m) (λ b. BodyComes scope (range_calls_of scope methods n) (CallsCome scope methods n) m v 0 b rs)) x
       by_body hv None f g k = absurd k
       by_body hv (Some b) f g k =
           let hc = calls_hold scope ok methods typed small n in
           let i = body_visited (calls_of scope methods n) (range_calls_of scope methods n) (CallsCome scope methods n) (CallsExecute scope methods n) hc
           hv m x b 0 rs z env w only (found_method (IsTypedBody scope methods) methods typed m b f)
           (found_method AreSmallTerms methods small m b f) g k in
-          wider _ _ x (λ v c. some_of (body_named methods m) b (λ b. BodyComes scope (range_calls_of scope methods n) (CallsCome scope methods n) m v 0 b rs) f c) i
+          wider scope _ _ x (λ v c. some_of (body_named methods m) b (λ b. BodyComes scope (range_calls_of scope methods n) (CallsCome scope methods n) m v 0 b rs) f c) i
 
 -- ---- the whole
 

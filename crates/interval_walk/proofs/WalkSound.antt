@@ -34,7 +34,8 @@ use Rattle.interval_walk.specs.Failures.{WalkFault, node_fails, and_then, at_stm
 use Rattle.interval_walk.specs.NodeRanges.{leaf_range}
 use Rattle.interval_walk.specs.Branches.{Branches, either_way}
 use Rattle.interval_walk.specs.Ranged.{ranged, tested}
-use Rattle.interval_walk.specs.Walked.{range_kept_as, assigned_range, joined, RangeCalls, walked, with_body, range_calls_of}
+use Rattle.interval_walk.specs.Visits.{kept_value}
+use Rattle.interval_walk.specs.Walked.{range_kept_as, kept_range, assigned_range, joined, RangeCalls, walked, with_body, range_calls_of}
 use Rattle.interval_walk.specs.Soundness.{AreWithin, TestHolds}
 use Rattle.interval_walk.specs.private.Soundness.{AreVariables}
 use Rattle.interval_walk.proofs.RowShapes.{both_true}
@@ -93,12 +94,15 @@ kept_inside scope declares.Big e j rs a v f g h = h
 kept_inside scope declares.Factor e j rs a v f g h = factor_inside a v (literal_places scope e 0 rs a f g) h
 kept_inside scope declares.Table e j rs a v f g h = h
 
-pub assigned_inside : (scope : Scope) (x : List ℕ) (e : Term) (rs : Ranges) (env : Env) (a : Interval) (v : Decimal) → TargetSuits scope x e → ranged scope e 0 rs ≡ Ok a → Contains a v → AreWithin rs env → AreWithin (assigned_range scope x a rs) (assigned scope x v env)
-assigned_inside scope x e rs env a v t g h w =
+-- a value lies in a range as a variable keeps both
+pub kept_within : (scope : Scope) (x : List ℕ) (e : Term) (rs : Ranges) (a : Interval) (v : Decimal) → TargetSuits scope x e → ranged scope e 0 rs ≡ Ok a → Contains a v → Contains (kept_range scope x a) (kept_value scope x v)
+kept_within scope x e rs a v t g h =
     let d = t.declaration in
     let inside = kept_inside scope d.kind e (kind_of scope e) rs a v t.suits g h in
-    within_put rs env x _ _ w
-    (subst (λ o. Contains (option_map_or (λ d. range_kept_as d.kind a) o a) (option_map_or (λ d. kept_as d.kind v) o v)) (sym t.declared) inside)
+    subst (λ o. Contains (option_map_or (λ d. range_kept_as d.kind a) o a) (option_map_or (λ d. kept_as d.kind v) o v)) (sym t.declared) inside
+
+pub assigned_inside : (scope : Scope) (x : List ℕ) (e : Term) (rs : Ranges) (env : Env) (a : Interval) (v : Decimal) → TargetSuits scope x e → ranged scope e 0 rs ≡ Ok a → Contains a v → AreWithin rs env → AreWithin (assigned_range scope x a rs) (assigned scope x v env)
+assigned_inside scope x e rs env a v t g h w = within_put rs env x _ _ w (kept_within scope x e rs a v t g h)
 
 -- ---- joins
 

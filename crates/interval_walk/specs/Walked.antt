@@ -23,10 +23,13 @@ abbrev pub range_kept_as : Kind → Interval → Interval
 range_kept_as declares.Factor a = record (at_scale factor_places a) { s_lo = factor_places }
 range_kept_as _ a = a
 
+-- a range as the variable of a name keeps it
+abbrev pub kept_range : Scope → List ℕ → Interval → Interval
+kept_range scope x a = option_map_or (λ d. range_kept_as d.kind a) (declared_as scope.variables x) a
+
 -- the variables after an assignment
 abbrev pub assigned_range : Scope → List ℕ → Interval → Ranges → Ranges
-assigned_range scope x a env =
-    put_range env x (option_map_or (λ d. range_kept_as d.kind a) (declared_as scope.variables x) a)
+assigned_range scope x a env = put_range env x (kept_range scope x a)
 
 -- the ranges of two branches together, variable by variable
 abbrev pub joined : Ranges → Ranges → Result Ranges RangeCause

@@ -14,7 +14,8 @@ pub fn admitted_inputs_are_safe()
 {}
 
 /// Where the walk of a well-typed plan passes, it comes to each statement that a run on admitted inputs executes, with ranges in which
-/// the values of the variables lie there. So no such run executes a statement to which the walk never comes.
+/// the values of the variables lie there. The value that an EVAL puts lies in the range that the walk puts there, and the exit that an
+/// IF takes is open there. So no such run executes a statement to which the walk never comes, or takes an exit that is never open.
 pub fn executed_statements_are_visited()
     ensures { ExecutedAreVisited }
 {}

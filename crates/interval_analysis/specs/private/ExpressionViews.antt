@@ -1,6 +1,6 @@
 -- What private contracts say of the walk of expressions.
 use Rattle.std.specs.Prelude.{◌≡◌, ℕ, ◌+◌, ◌<◌, ◌^◌, List, Option, Some, None, Result, Ok, Err, ⊤}
-use Rattle.pap_tree.specs.Term.{Term, One, one, Two, two}
+use Rattle.pap_tree.specs.Term.{Term, One, Two}
 use Rattle.pap_tree.specs.Numbering.{nodes}
 use Rattle.pap_tree.specs.Scales.{KeepsScales}
 use Rattle.interval_num.specs.declared.cause.RangeCause.TheVariants.{Wide}

@@ -1,18 +1,47 @@
 use Rattle.std.proofs.Common.{map}
 use Rattle.pap_tree.specs.Flowchart.{flowchart_of}
+use Rattle.pap_types.specs.Scopes.{scope_of}
 use Rattle.interval_walk.specs.Visits.{WalkComes}
 use Rattle.interval_walk.proofs.Laws.{executed_visited}
 use Rattle.interval_analysis.specs.Answers.{named_range}
-use Rattle.interval_analysis.proofs.VisitLemmas.{all_marked}
+use Rattle.interval_analysis.specs.declared.visits.Known.{Known}
+use Rattle.interval_analysis.proofs.VisitLemmas.{some_known, survey_found, found_reached, found_value, found_exit}
 use Rattle.interval_analysis.proofs.analysis.survey.Goals as goal
 
+pub survey_of-requires : goal.survey_of-requires
+survey_of-requires c =
+    let f = flowchart_of c.args.t.now in
+    let limits = c.args.limits.now in
+    some_known (scope_of f) (WalkComes f limits) c.new-visits.result.known c.walked_outputs.new.visits.known c.new-visits.ensures c.in_ok-outputs.ensures.visits
+
+pub returns-clause-reached : goal.returns-clause-reached
+returns-clause-reached c =
+    let f = flowchart_of c.args.t.now in
+    let limits = c.args.limits.now in
+    (survey_found (scope_of f) (WalkComes f limits) c.new-visits.result.known c.walked_outputs.new.visits.known c.survey_of.result c.new-visits.ensures c.in_ok-outputs.ensures.visits c.survey_of.ensures.known).reached
+
+pub returns-clause-values : goal.returns-clause-values
+returns-clause-values c =
+    let f = flowchart_of c.args.t.now in
+    let limits = c.args.limits.now in
+    (survey_found (scope_of f) (WalkComes f limits) c.new-visits.result.known c.walked_outputs.new.visits.known c.survey_of.result c.new-visits.ensures c.in_ok-outputs.ensures.visits c.survey_of.ensures.known).values
+
+pub returns-clause-exits : goal.returns-clause-exits
+returns-clause-exits c =
+    let f = flowchart_of c.args.t.now in
+    let limits = c.args.limits.now in
+    (survey_found (scope_of f) (WalkComes f limits) c.new-visits.result.known c.walked_outputs.new.visits.known c.survey_of.result c.new-visits.ensures c.in_ok-outputs.ensures.visits c.survey_of.ensures.known).exits
+
 pub returns-clause-sound : goal.returns-clause-sound
-returns-clause-sound c = λ inputs admitted x executed.
+returns-clause-sound c = λ inputs admitted.
     let f = flowchart_of c.args.t.now in
     let limits = c.args.limits.now in
     let ranges = map named_range c.in_ok-outputs.outputs.items in
-    let visited = executed_visited f limits ranges c.plan-well_typed.ensures.well_typed c.plan-well_typed.ensures.counted c.requires.limits c.in_ok-outputs.ensures.outputs inputs admitted x executed in
-    let kept =
-    all_marked (WalkComes f limits) c.new-visits.result.places c.walked_outputs.new.visits.places c.in-Some.reached c.new-visits.ensures c.in_ok-outputs.ensures.visits c.in-Some.is (x.method, x.number)
-    (visited.visit, visited.comes, λ i. (visited.method i, visited.number i)) in
-    rw c.in-Some.is kept
+    let s = c.survey_of.result in
+    let k : Known = record { reached = s.reached; values = s.values; exits = s.exits } in
+    let found = survey_found (scope_of f) (WalkComes f limits) c.new-visits.result.known c.walked_outputs.new.visits.known s c.new-visits.ensures c.in_ok-outputs.ensures.visits c.survey_of.ensures.known in
+    let visited = executed_visited f limits ranges c.plan-well_typed.ensures.well_typed c.plan-well_typed.ensures.counted c.requires.limits c.in_ok-outputs.ensures.outputs inputs admitted in (
+      λ x executed. found_reached (scope_of f) (WalkComes f limits) k found x (visited x executed),
+      λ x d executed put. found_value (scope_of f) (WalkComes f limits) k found x (visited x executed) d put,
+      λ x holds executed taken. found_exit (scope_of f) (WalkComes f limits) k found x (visited x executed) holds taken,
+    )

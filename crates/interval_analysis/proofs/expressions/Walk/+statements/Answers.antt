@@ -1,5 +1,7 @@
-use Rattle.std.proofs.Common.{Ok, Err, ◌≡◌, ◌+◌, ◌-◌, ◌⊎◌, inl, inr, OnOk, drop, sym, ap, ◌∙◌, subst, arith}
+use Rattle.std.proofs.Common.{Ok, Err, [], ◌≡◌, ◌+◌, ◌-◌, ◌⊎◌, inl, inr, OnOk, drop, sym, ap, ◌∙◌, subst, arith}
+use Rattle.std.proofs.lemmas.List.{drop_all}
 use Rattle.pap_tree.specs.Flowchart.{body_of, stmt_then, done}
+use Rattle.pap_tree.specs.Term.{term_of}
 use Rattle.pap_tree.specs.Statements.{written}
 use Rattle.pap_tree.proofs.Laws.{stmt_at, branch_is}
 use Rattle.pap_types.specs.Routines.{body_named}
@@ -11,8 +13,8 @@ use Rattle.interval_analysis.specs.declared.statements.Fork.{Fork}
 use Rattle.interval_analysis.specs.private.Changes.{changed}
 use Rattle.interval_analysis.specs.private.Meetings.{MeetsAnswer}
 use Rattle.interval_analysis.specs.private.StatementViews.{second_spot}
-use Rattle.interval_analysis.specs.private.VisitViews.{MarkIn, ComesIn, ComesInBoth, ComesInside}
-use Rattle.interval_analysis.proofs.VisitLemmas.{mark_none, mark_then, turn_marks, call_marks}
+use Rattle.interval_analysis.specs.private.VisitViews.{GathersIn, ComesIn, ComesInBoth, ComesInLists}
+use Rattle.interval_analysis.proofs.VisitLemmas.{gather_none, gather_then, turn_gathers, if_comes_on, first_list, second_list, both_lists, execute_comes, call_gathers}
 use Rattle.interval_analysis.proofs.NoteLemmas.{noted_then, since}
 use Rattle.interval_analysis.proofs.RepeatLemmas.{noted_longer}
 use Rattle.interval_analysis.proofs.CountLemmas.{written_at, can_here, can_rest}
@@ -98,13 +100,37 @@ walk_body-loop-stmt-preserved t c =
           ∙ ap (walked_in w (record spot { at = next }) (body_of (drop i body))) c.in_ok-trim.ensures.ranges
           ∙ c.loop-stmt.invariant.left;
       on = goes_then p was c.trim.new.self c.walk_statement.new.variables on c.in_ok-next.ensures.on;
-      marks =
-          λ last h. c.loop-stmt.invariant.marks last
-          (subst (λ rs. MarkIn (ComesIn w (record spot { at = next }) (body_of (drop i body)) (ranges_in p rs)) c.loop-stmt.visits.places last) c.in_ok-trim.ensures.ranges
-          (subst (λ b. MarkIn (ComesIn w (record spot { at = next }) b (ranges_in p rs)) c.loop-stmt.visits.places last) (sym is)
-          (turn_marks w (record spot { at = next }) s rest c.in_ok-next.next rs c.walk_statement.new.variables.ranges.items c.loop-stmt.visits.places c.mark.new.self.places c.walk_statement.new.visits.places last
-          c.in_ok-mark.ensures c.in_ok-next.ensures.visits step.0 step.1 h)));
+      gathers =
+          λ last h. c.loop-stmt.invariant.gathers last
+          (subst (λ rs. GathersIn (scope_in w.plan.now) (ComesIn w (record spot { at = next }) (body_of (drop i body)) (ranges_in p rs)) c.loop-stmt.visits.known last) c.in_ok-trim.ensures.ranges
+          (subst (λ b. GathersIn (scope_in w.plan.now) (ComesIn w (record spot { at = next }) b (ranges_in p rs)) c.loop-stmt.visits.known last) (sym is)
+          (turn_gathers w (record spot { at = next }) s rest c.in_ok-next.next rs c.walk_statement.new.variables.ranges.items c.loop-stmt.visits.known c.walk_statement.new.visits.known last
+          c.in_ok-next.ensures.visits step.0 step.1 h)));
     }
+
+pub walk_body-returns-clause-visits : goal.walk_body-returns-clause-visits
+walk_body-returns-clause-visits t c =
+    let w = c.args.self.now in
+    let known = c.loop-stmt.visits.known in
+    let end : drop c.loop-stmt.stmt-index c.args.body.now ≡ [] = drop_all c.loop-stmt.stmt-index c.args.body.now (omega (arith, c.loop-stmt-test.false)) in
+    c.loop-stmt.invariant.gathers known
+    (subst (λ xs. GathersIn (scope_in w.plan.now) (ComesIn w (record c.args.spot { at = c.loop-stmt.next }) (body_of xs) (ranges_in w.plan.now c.loop-stmt.variables.ranges.items)) known known) (sym end)
+    (gather_none (scope_in w.plan.now) (λ v. ⊥) known (λ v n. n)))
+
+pub walk_fork-returns-in-None-clause-visits : goal.walk_fork-returns-in-None-clause-visits
+walk_fork-returns-in-None-clause-visits t c =
+    second_list c.args.self.now c.args.spot c.walk_second.result c.args.fork.now c.args.variables.now.ranges.items c.deref.result.now c.args.branches c.in-Some-fails.failed c.args.visits.now.known c.walk_second.new.visits.known
+    c.in-None.is c.in-Some-fails.is c.deref.ensures.value c.walk_second.ensures.visits
+
+pub walk_fork-returns-in-None-fails-2-clause-visits : goal.walk_fork-returns-in-None-fails-2-clause-visits
+walk_fork-returns-in-None-fails-2-clause-visits t c =
+    first_list c.args.self.now c.args.spot c.walk_first.result c.args.fork.now c.args.variables.now.ranges.items c.deref-in-None-fails-2.result.now c.args.branches c.in-Some.held c.args.visits.now.known c.walk_first.new.visits.known
+    c.in-Some.is c.in-None-fails-2.is c.deref-in-None-fails-2.ensures.value c.walk_first.ensures.visits
+
+pub walk_fork-returns-clause-visits : goal.walk_fork-returns-clause-visits
+walk_fork-returns-clause-visits t c =
+    both_lists c.args.self.now c.args.spot c.walk_both.result c.args.fork.now c.args.variables.now.ranges.items c.deref-in-Some-fails-2.result.now c.deref-in-Some-fails-2-2.result.now c.args.branches c.in-Some.held c.in-Some-fails-2.failed
+    c.args.visits.now.known c.walk_both.new.visits.known c.in-Some.is c.in-Some-fails-2.is c.deref-in-Some-fails-2.ensures.value c.deref-in-Some-fails-2-2.ensures.value c.walk_both.ensures.visits
 
 pub walk_method-returns-then-chain-eq0-clause-passes : goal.walk_method-returns-then-chain-eq0-clause-passes
 walk_method-returns-then-chain-eq0-clause-passes t c =
@@ -134,7 +160,7 @@ walk_method-returns-in_ok-walk_body-in-Some-clause-passes t c =
 pub walk_method-returns-in_ok-walk_body-in-Some-clause-visits : goal.walk_method-returns-in_ok-walk_body-in-Some-clause-visits
 walk_method-returns-in_ok-walk_body-in-Some-clause-visits t c =
     let w = c.args.self.now in
-    call_marks w c.args.name.now c.args.chain (body_of c.in-Some.body.now) (ranges_in w.plan.now c.args.variables.now.ranges.items) c.args.visits.now.places c.walk_body.new.visits.places c.if-chain-eq0.false
+    call_gathers w c.args.name.now c.args.chain (body_of c.in-Some.body.now) (ranges_in w.plan.now c.args.variables.now.ranges.items) c.args.visits.now.known c.walk_body.new.visits.known c.if-chain-eq0.false
     (sym (c.in-Some.ensures.body ∙ ap (λ p. body_named (methods_in p) c.args.name.now) c.typed.ensures)) c.in_ok-walk_body-in-Some.ensures.visits
 
 pub walk_method-returns-in-None-clause-passes : goal.walk_method-returns-in-None-clause-passes
@@ -153,8 +179,15 @@ walk_statement-walk_if-requires t c =
 pub walk_statement-returns-in_ok-assign-in-Eval-clause-visits : goal.walk_statement-returns-in_ok-assign-in-Eval-clause-visits
 walk_statement-returns-in_ok-assign-in-Eval-clause-visits t c =
     let w = c.args.self.now in
-    subst (λ s. MarkIn (ComesInside w c.args.spot (stmt_then s done) (ranges_in w.plan.now c.args.variables.now.ranges.items)) c.args.visits.now.places c.args.visits.now.places) (sym c.in-Eval.is)
-    (mark_none (λ v. ⊥) c.args.visits.now.places (λ v h. h))
+    subst (λ s. GathersIn (scope_in w.plan.now) (ComesIn w c.args.spot (stmt_then s done) (ranges_in w.plan.now c.args.variables.now.ranges.items)) c.args.visits.now.known c.assign.new.visits.known) (sym c.in-Eval.is)
+    c.in_ok-assign-in-Eval.ensures.visits
+
+pub walk_statement-returns-in_ok-walk_method-in-Execute-clause-visits : goal.walk_statement-returns-in_ok-walk_method-in-Execute-clause-visits
+walk_statement-returns-in_ok-walk_method-in-Execute-clause-visits t c =
+    let w = c.args.self.now in
+    let env = ranges_in w.plan.now c.args.variables.now.ranges.items in
+    subst (λ s. GathersIn (scope_in w.plan.now) (ComesIn w c.args.spot (stmt_then s done) env) c.args.visits.now.known c.walk_method.new.visits.known) (sym c.in-Execute.is)
+    (execute_comes w c.args.spot c.in-Execute.method env c.args.visits.now.known c.keep_execute.new.self.known c.walk_method.new.visits.known c.in_ok-keep_execute-in-Execute.ensures c.in_ok-walk_method-in-Execute.ensures.visits)
 
 pub walk_statement-returns-in-If-clause-visits : goal.walk_statement-returns-in-If-clause-visits
 walk_statement-returns-in-If-clause-visits t c =
@@ -162,7 +195,7 @@ walk_statement-returns-in-If-clause-visits t c =
     let spot = c.args.spot in
     let rs = c.args.variables.now.ranges.items in
     let is = branch_is c.args.stmt.now c.in-If.test c.in-If.yes c.in-If.no c.deref.result.now c.deref-in-If.result.now c.in-If.is c.deref.ensures.value c.deref-in-If.ensures.value done in
-    subst (λ b. OnOk c.walk_if.result (MarkIn (ComesInside w spot b (ranges_in w.plan.now rs)) c.args.visits.now.places c.walk_if.new.visits.places)) (sym is) c.walk_if.ensures.visits
+    subst (λ b. OnOk c.walk_if.result (GathersIn (scope_in w.plan.now) (ComesIn w spot b (ranges_in w.plan.now rs)) c.args.visits.now.known c.walk_if.new.visits.known)) (sym is) c.walk_if.ensures.visits
 
 pub walk_statement-returns-in-If-clause-passes : goal.walk_statement-returns-in-If-clause-passes
 walk_statement-returns-in-If-clause-passes t c =
@@ -176,8 +209,8 @@ walk_statement-returns-in-If-clause-passes t c =
     subst (λ b. Passes (through_body w spot b rs) c.walk_if.new.variables.ranges.items c.walk_if.result) (sym is)
     (passes_to (through_if w spot c.in-If.test yes no rs) (spot.at + written (if_of c.in-If.test yes no)) c.walk_if.new.variables.ranges.items c.walk_if.result number c.walk_if.ensures.passes)
 
-pub walk_if-returns-in-Ok-clause-passes : goal.walk_if-returns-in-Ok-clause-passes
-walk_if-returns-in-Ok-clause-passes t c =
+pub walk_if-returns-in_ok-keep_if-in-Ok-clause-passes : goal.walk_if-returns-in_ok-keep_if-in-Ok-clause-passes
+walk_if-returns-in_ok-keep_if-in-Ok-clause-passes t c =
     let w = c.args.self.now in
     let p = w.plan.now in
     let spot = c.args.spot in
@@ -188,6 +221,18 @@ walk_if-returns-in-Ok-clause-passes t c =
     if_passes w spot c.args.test.now f vs new (branches_in p vs b) c.walk_fork.result
     (if_forks w spot c.args.test.now f vs b c.in-Ok.ensures.answer.branches (omega (arith, c.in-Ok.ensures.answer.next)))
     (subst (λ rs. Passes (through_fork w spot f (branches_in p rs b)) new c.walk_fork.result) c.in-Ok.ensures.left.ranges c.walk_fork.ensures.passes)
+
+pub walk_if-returns-in_ok-keep_if-in-Ok-clause-visits : goal.walk_if-returns-in_ok-keep_if-in-Ok-clause-visits
+walk_if-returns-in_ok-keep_if-in-Ok-clause-visits t c =
+    let w = c.args.self.now in
+    let p = w.plan.now in
+    let yes = body_of c.args.yes.now in
+    let other = body_of c.args.no.now in
+    let b = c.in-Ok.field-0.branches in
+    let mid = c.keep_if.new.self.known in
+    let new = c.walk_fork.new.visits.known in
+    if_comes_on w c.args.spot c.walk_fork.result (term_of c.args.test.now) yes other c.args.variables.now.ranges.items b c.args.visits.now.known mid new c.in-Ok.ensures.answer.branches c.in_ok-keep_if-in-Ok.ensures
+    (subst (λ rs. OnOk c.walk_fork.result (GathersIn (scope_in p) (ComesInLists w c.args.spot yes other (branches_in p rs b)) mid new)) c.in-Ok.ensures.left.ranges c.walk_fork.ensures.visits)
 
 -- ---- what is noted, on faults too
 
@@ -271,13 +316,13 @@ walk_second_last-returns-in-Ok-clause-visits t c =
     let fs = changed was.ranges.items c.args.failed.now in
     let back = c.in_ok-return_to.ensures.ranges ∙ since was s c.len-outset.result (c.len-outset.ensures ∙ was.notes.ok.0) c.in_ok-next.ensures.on.noted in
     let first = c.in_ok-next.ensures.passes in
-    let places = c.walk_branch.new.visits.places in
-    let last = c.walk_branch-2.new.visits.places in
+    let places = c.walk_branch.new.visits.known in
+    let last = c.walk_branch-2.new.visits.known in
     let second =
-    subst (λ k. MarkIn (ComesIn w (record spot { at = k }) (body_of f.no.now) (ranges_in w.plan.now fs)) places last) first.1
-    (subst (λ rs. MarkIn (ComesIn w (record spot { at = c.in_ok-next.next }) (body_of f.no.now) (ranges_in w.plan.now (changed rs c.args.failed.now))) places last) back c.in_ok-next-2.ensures.visits) in
-    mark_then (ComesIn w (first_spot spot) (body_of f.yes.now) (ranges_in w.plan.now hs)) (ComesIn w (second_spot spot f) (body_of f.no.now) (ranges_in w.plan.now fs)) (ComesInBoth w spot f hs fs)
-    c.args.visits.now.places places last c.in_ok-next.ensures.visits second (λ v. (λ h. h, λ h. h))
+    subst (λ k. GathersIn (scope_in w.plan.now) (ComesIn w (record spot { at = k }) (body_of f.no.now) (ranges_in w.plan.now fs)) places last) first.1
+    (subst (λ rs. GathersIn (scope_in w.plan.now) (ComesIn w (record spot { at = c.in_ok-next.next }) (body_of f.no.now) (ranges_in w.plan.now (changed rs c.args.failed.now))) places last) back c.in_ok-next-2.ensures.visits) in
+    gather_then (scope_in w.plan.now) (ComesIn w (first_spot spot) (body_of f.yes.now) (ranges_in w.plan.now hs)) (ComesIn w (second_spot spot f) (body_of f.no.now) (ranges_in w.plan.now fs)) (ComesInBoth w spot f hs fs)
+    c.args.visits.now.known places last c.in_ok-next.ensures.visits second (λ v. (λ h. h, λ h. h))
 
 pub walk_second_last-returns-in-Err-clause-passes : goal.walk_second_last-returns-in-Err-clause-passes
 walk_second_last-returns-in-Err-clause-passes t c =
@@ -375,12 +420,12 @@ walk_first_last-returns-in-Ok-clause-visits t c =
     let fs = changed was.ranges.items c.args.failed.now in
     let back = c.in_ok-return_to.ensures.ranges ∙ since was s c.len-outset.result (c.len-outset.ensures ∙ was.notes.ok.0) c.walk_branch-behind.ensures.on.noted in
     let number : spot.at + 1 + c.written.result ≡ spot.at + 1 + written (body_of f.yes.now) = omega (arith, c.written.ensures) in
-    let places = c.walk_branch-behind.new.visits.places in
-    let last = c.walk_branch.new.visits.places in
-    let second = subst (λ k. MarkIn (ComesIn w (record spot { at = k }) (body_of f.no.now) (ranges_in w.plan.now fs)) c.args.visits.now.places places) number c.in_ok-next.ensures.visits in
-    let first = subst (λ rs. MarkIn (ComesIn w (first_spot spot) (body_of f.yes.now) (ranges_in w.plan.now (changed rs c.args.held.now))) places last) back c.in_ok-walk_branch.ensures.visits in
-    mark_then (ComesIn w (second_spot spot f) (body_of f.no.now) (ranges_in w.plan.now fs)) (ComesIn w (first_spot spot) (body_of f.yes.now) (ranges_in w.plan.now hs)) (ComesInBoth w spot f hs fs)
-    c.args.visits.now.places places last second first (λ v. (swap, swap))
+    let places = c.walk_branch-behind.new.visits.known in
+    let last = c.walk_branch.new.visits.known in
+    let second = subst (λ k. GathersIn (scope_in w.plan.now) (ComesIn w (record spot { at = k }) (body_of f.no.now) (ranges_in w.plan.now fs)) c.args.visits.now.known places) number c.in_ok-next.ensures.visits in
+    let first = subst (λ rs. GathersIn (scope_in w.plan.now) (ComesIn w (first_spot spot) (body_of f.yes.now) (ranges_in w.plan.now (changed rs c.args.held.now))) places last) back c.in_ok-walk_branch.ensures.visits in
+    gather_then (scope_in w.plan.now) (ComesIn w (second_spot spot f) (body_of f.no.now) (ranges_in w.plan.now fs)) (ComesIn w (first_spot spot) (body_of f.yes.now) (ranges_in w.plan.now hs)) (ComesInBoth w spot f hs fs)
+    c.args.visits.now.known places last second first (λ v. (swap, swap))
   where
     swap : {A B : Type 0} → A ⊎ B → B ⊎ A
     swap (inl h) = inr h

@@ -1,11 +1,11 @@
 use Rattle.std.proofs.Common.{◌≡◌, ◌+◌, ◌*◌, ◌^◌, ◌≤◌, drop, Option}
-use Rattle.std.specs.BTreeSet.{BTreeSet}
 use Rattle.pap_tree.specs.Flowchart.{body_of, stmt_then, done}
 use Rattle.pap_tree.specs.Statements.{written}
-use Rattle.interval_analysis.specs.Surveys.{StatementPlace}
+use Rattle.pap_types.specs.private.ScopeViews.{scope_in}
+use Rattle.interval_analysis.specs.declared.visits.Known.{Known}
 use Rattle.interval_analysis.specs.private.PlanViews.{ranges_in}
 use Rattle.interval_analysis.specs.private.VariableViews.{GoesOn}
-use Rattle.interval_analysis.specs.private.VisitViews.{MarkIn, ComesIn}
+use Rattle.interval_analysis.specs.private.VisitViews.{GathersIn, ComesIn}
 use Rattle.interval_analysis.specs.private.StatementViews.{CanWalkBody, walked_in}
 use Rattle.interval_analysis.proofs.expressions.Walk.+statements.Given as goal
 
@@ -52,8 +52,8 @@ invariant-walk_body-loop-stmt l = record {
       walked_in l.self (record l.fn.spot { at = l.next }) (body_of (drop l.stmt-index l.body)) l.variables.ranges.items
       ≡ walked_in l.self l.fn.spot (body_of l.body) l.initial.variables.ranges.items;
   on : GoesOn l.self.plan.now l.initial.variables l.variables;
-  marks :
-      (last : Option (BTreeSet StatementPlace))
-      → MarkIn (ComesIn l.self (record l.fn.spot { at = l.next }) (body_of (drop l.stmt-index l.body)) (ranges_in l.self.plan.now l.variables.ranges.items)) l.visits.places last
-      → MarkIn (ComesIn l.self l.fn.spot (body_of l.body) (ranges_in l.self.plan.now l.initial.variables.ranges.items)) l.initial.visits.places last;
+  gathers :
+      (last : Option Known)
+      → GathersIn (scope_in l.self.plan.now) (ComesIn l.self (record l.fn.spot { at = l.next }) (body_of (drop l.stmt-index l.body)) (ranges_in l.self.plan.now l.variables.ranges.items)) l.visits.known last
+      → GathersIn (scope_in l.self.plan.now) (ComesIn l.self l.fn.spot (body_of l.body) (ranges_in l.self.plan.now l.initial.variables.ranges.items)) l.initial.visits.known last;
 }
