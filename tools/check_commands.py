@@ -87,7 +87,7 @@ def forms():
 
 def statuses():
     """The numbers of statuses are those of the definitions."""
-    wanted = re.findall(r"^number_of \w+ = (\d+)$", read("crates/pap_cli/specs/Statuses.antt"), re.M)
+    wanted = re.findall(r"^status_number \w+ = (\d+)$", read("crates/pap_cli/specs/Statuses.antt"), re.M)
     manual = read(MANUAL)
     manual = manual[manual.index(".Sh EXIT STATUS"):manual.index(".Sh EXAMPLES")]
     ends = help_text()[help_text().index("It ends with 0"):]

@@ -1,8 +1,7 @@
 #!/usr/bin/env python3
 """One word, one thing: check_names.py, from the top of the repository.
 
-No name of a definition of specs/ stands in a second file there, but for those of MAY, where both mean the same of another thing, and those
-of TWO_THINGS, which has what still is one name for two things: it may only grow shorter. The constructors of a `data` and the fields of a
+No name of a definition of specs/ stands in a second file there, but for those of MAY, where both mean the same of another thing. The constructors of a `data` and the fields of a
 record are read with their type and aren't asked; nor are specs/private/ and specs/laws/, which no public contract reaches."""
 import glob
 import re
@@ -14,9 +13,9 @@ DEFINED = re.compile(r"^\s*(?:unfoldable )?(?:abbrev pub|pub record|pub data) (\
 # Why a name may stand in several files.
 MAY = {
     "two programs make the same promises of their own words and objects":
-        "Carries HasForm HaveOneForm Headline IsBad Leaves Outside outside_of texts",
+        "Carries Form HasForm HaveOneForm Headline IsBad Leaves Outside outside_of texts",
     "how a program ends, or what it says of a refusal, each in its own way":
-        "IsAnswered stop_of stop_of_file",
+        "Answer IsAnswered stop_of stop_of_file words_of",
     "the same is said of another text":
         "Earns HasOneAnswer IsAccepted IsFaultOrMemory IsFirstFault IsReadable IsToken Token fault_text place_text",
     "of the bytes of a text, and of its tokens":
@@ -33,14 +32,6 @@ MAY = {
         "body_code",
 }
 
-# One name for two things.
-TWO_THINGS = """
-Answer Answers Branches Calls Does Entry Fits Form Front HasCause HasOrder IsAtMost IsKept IsUnread IsValue IsWhole IsWide Item Job
-Meaning Names One Plain Says State TableSays Text Two after before begins_with compared entry_of fits given greatest is_blank is_kind
-is_shown items_of joined kept least level_of lines_of marked most most_places name_at number_of output_of outputs_in outside picked_entry
-put refusal shortened shown shown_char site spaced spelled start state_of takes text_of value_of with_inputs without words_of
-""".split()
-
 
 def names():
     """Each name of a definition of specs/, with the files in which it stands."""
@@ -54,13 +45,13 @@ def names():
 
 def main():
     found = names()
-    listed = sum((line.split() for line in MAY.values()), []) + TWO_THINGS
+    listed = sum((line.split() for line in MAY.values()), [])
     faults = [f"{name} is listed twice" for name in sorted({name for name in listed if listed.count(name) > 1})]
     faults += [f"{name} stands in {' and '.join(sorted(found[name]))}" for name in sorted(found) if len(found[name]) > 1 and name not in listed]
     faults += [f"{name} stands in one file alone: take it off the list" for name in sorted(set(listed)) if len(found[name]) < 2]
     for fault in faults:
         print(f"check_names: {fault}")
-    print(f"check_names: {len(found)} names, {len(listed)} of them in several files ({len(TWO_THINGS)} for two things), {len(faults)} faults")
+    print(f"check_names: {len(found)} names, {len(listed)} of them in several files, {len(faults)} faults")
     return 1 if faults or not found else 0
 
 

@@ -15,7 +15,7 @@ use Rattle.scaled_decimal.specs.WholeNumbers.{IsOfBits}
 use Rattle.pap_tree.specs.Scales.{is_kept_at}
 use Rattle.pap_tree.specs.declared.declaration.Kind.TheVariants as kinds
 use Rattle.limits_file.specs.declared.limits.InputLimit.{InputLimit}
-use Rattle.limits_file.specs.Limits.{HasSoundBounds, IsAtMost}
+use Rattle.limits_file.specs.Limits.{HasSoundBounds, IsNoGreater}
 use Rattle.author_cli.specs.DraftLaws.{IsWidest, IsTaken, WidestSuit}
 
 -- ---- digits
@@ -50,13 +50,13 @@ spelled_is text d negative whole places s parts some w p =
 -- bounds that are known
 sound : (limit : InputLimit) (places : ℕ) (low high : Decimal)
     → limit.places ≡ places → limit.low ≡ low → limit.high ≡ high
-    → places ≤ 30 → scale_of low ≤ places → scale_of high ≤ places → IsAtMost low high
+    → places ≤ 30 → scale_of low ≤ places → scale_of high ≤ places → IsNoGreater low high
     → IsWithinLimit (numerator_at places low) → IsWithinLimit (numerator_at places high) → HasSoundBounds limit
 sound limit places low high p l h few low_scale high_scale ordered low_kept high_kept = record {
   places = subst (λ n. n ≤ 30) (sym p) few;
   low_places = subst (λ d. scale_of d ≤ limit.places) (sym l) (subst (λ n. scale_of low ≤ n) (sym p) low_scale);
   high_places = subst (λ d. scale_of d ≤ limit.places) (sym h) (subst (λ n. scale_of high ≤ n) (sym p) high_scale);
-  ordered = subst (λ d. IsAtMost d limit.high) (sym l) (subst (λ d. IsAtMost low d) (sym h) ordered);
+  ordered = subst (λ d. IsNoGreater d limit.high) (sym l) (subst (λ d. IsNoGreater low d) (sym h) ordered);
   low_kept = subst (λ d. IsWithinLimit (numerator_at limit.places d)) (sym l)
       (subst (λ n. IsWithinLimit (numerator_at n low)) (sym p) low_kept);
   high_kept = subst (λ d. IsWithinLimit (numerator_at limit.places d)) (sym h)

@@ -32,7 +32,7 @@ use Rattle.payroll_records.specs.declared.values.NamedValue.{NamedValue}
 use Rattle.author_cli.specs.private.TwoFronts.{AreTwoFronts}
 use Rattle.pap_tree.specs.Flowchart.{Flowchart}
 use Rattle.plan_text.specs.Plans.{IsPlan}
-use Rattle.pap_plan.specs.AcceptanceClauses.{IsUnread}
+use Rattle.pap_plan.specs.AcceptanceClauses.{IsUnreadPlan}
 use Rattle.plan_answers.specs.Refusals.{HasDetail}
 use Rattle.plan_answers.specs.Answers.{Answer as Written, refusal}
 use Rattle.author_cli.specs.Answers.{Answer, IsChart, IsRanges, file_of, Answers}
@@ -232,7 +232,7 @@ module _ (n m : ℕ) (more_plan : 1048576 < n) (more_limits : 262144 < m) where
 
   -- ---- two plans
 
-  unread_front : (plan : List ℕ) (r : PlanRefusal) → IsUnread (take n plan) r → IsUnread plan r
+  unread_front : (plan : List ℕ) (r : PlanRefusal) → IsUnreadPlan (take n plan) r → IsUnreadPlan plan r
   unread_front plan (refusals.Read fault) h = refused_alone plan (refusals.Read fault) h
   unread_front plan (refusals.Expr spot fault) h = refused_alone plan (refusals.Expr spot fault) h
   unread_front plan refusals.Memory h = tt
@@ -244,7 +244,7 @@ module _ (n m : ℕ) (more_plan : 1048576 < n) (more_limits : 262144 < m) where
   unread_front plan (refusals.Bind name) h = absurd h
   unread_front plan (refusals.Range fault) h = absurd h
 
-  detail_front : (plan : List ℕ) (r : PlanRefusal) (detail : List ℕ) → IsUnread (take n plan) r
+  detail_front : (plan : List ℕ) (r : PlanRefusal) (detail : List ℕ) → IsUnreadPlan (take n plan) r
       → HasDetail (take n plan) r detail → HasDetail plan r detail
   detail_front plan (refusals.Read fault) detail u h = h
   detail_front plan (refusals.Expr spot fault) detail u h = h

@@ -57,7 +57,7 @@ unread plan file fault written answer words none has refused same reason line be
 }
 
 -- a refusal of a text that isn't a plan's, whatever its range file
-refused_unread : (plan : List ℕ) (r : PlanRefusal) (detail : List ℕ) → clauses.IsUnread plan r → HasDetail plan r detail
+refused_unread : (plan : List ℕ) (r : PlanRefusal) (detail : List ℕ) → clauses.IsUnreadPlan plan r → HasDetail plan r detail
     → IsRefused plan [] r
 refused_unread plan (refusals.Read fault) detail u h = u
 refused_unread plan (refusals.Expr spot fault) detail u h = u
@@ -72,7 +72,7 @@ refused_unread plan (refusals.Range fault) detail u h = absurd u
 
 -- the line of that refusal and its words
 pub unreadable : (plan file : TextFile) (r : PlanRefusal) (written : Written) (text : List ℕ) (reason : Option (List ℕ))
-    (words : List ℕ) → named_text file ≡ file_or_none None → clauses.IsUnread plan.bytes.now r
+    (words : List ℕ) → named_text file ≡ file_or_none None → clauses.IsUnreadPlan plan.bytes.now r
     → IsRefusal plan.bytes.now r written → text ≡ written.text → reason ≡ Some words
     → IsOneLine words → BeginsAtRefusal (files_of plan file) r words → IsUnreadable (named_text plan) text reason
 unreadable plan file r written text reason words none has refused same said line begins = record {

@@ -3,7 +3,7 @@ use Rattle.std.specs.Prelude.{◌≡◌, ◌⊎◌, ℕ, List, Bool, if◌then�
 use Rattle.pap_tree.specs.Flowchart.{Flowchart}
 use Rattle.plan_text.specs.Plans.{IsPlan}
 use Rattle.pap_plan.specs.declared.refusal.PlanRefusal.{PlanRefusal}
-use Rattle.pap_plan.specs.AcceptanceClauses.{IsUnread}
+use Rattle.pap_plan.specs.AcceptanceClauses.{IsUnreadPlan}
 use Rattle.plan_answers.specs.Lines.{refusal_line}
 use Rattle.plan_answers.specs.Refusals.{HasDetail}
 use Rattle.plain_words.specs.Places.{NamedText}
@@ -31,7 +31,7 @@ pub record IsComparedText (old new text : List ℕ) (reason : Option (List ℕ))
 -- the line of a file that isn't read as a plan, as `check` writes it, and the words that say why
 pub record IsUnreadable (plan : NamedText) (text : List ℕ) (reason : Option (List ℕ)) : Type 0 where
   pub refusal : PlanRefusal
-  pub unread : IsUnread plan.bytes refusal
+  pub unread : IsUnreadPlan plan.bytes refusal
   pub detail : List ℕ
   pub has : HasDetail plan.bytes refusal detail
   pub written : text ≡ refusal_line detail

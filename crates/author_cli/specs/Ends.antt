@@ -14,10 +14,10 @@ abbrev pub words_of : Option (String Global) → Option (List ℕ)
 words_of reason = option_map (λ words. string_bytes words) reason
 
 -- the number with which the program ends
-abbrev pub number_of : Ended → ℕ
-number_of (Ok None) = 0
-number_of (Ok (Some reason)) = 1
-number_of (Err stops.Words) = 2
-number_of (Err stops.File) = 3
-number_of (Err stops.Write) = 5
-number_of (Err stops.Memory) = 6
+abbrev pub exit_number : Ended → ℕ
+exit_number (Ok None) = 0
+exit_number (Ok (Some reason)) = 1
+exit_number (Err stops.Words) = 2
+exit_number (Err stops.File) = 3
+exit_number (Err stops.Write) = 5
+exit_number (Err stops.Memory) = 6

@@ -3,7 +3,7 @@ ghost use Rattle.std.specs.Prelude.{◌≡◌, IfOk, IsErrOf, OnOk};
 ghost use Rattle.std.specs.Option.{ForSome};
 ghost use Rattle.outside.specs.Causes.{Caused};
 ghost use Rattle.pap_tree.specs.Flowchart.{flowchart_of};
-ghost use Rattle.pap_plan.specs.AcceptanceClauses.{IsUnread};
+ghost use Rattle.pap_plan.specs.AcceptanceClauses.{IsUnreadPlan};
 ghost use Rattle.plan_text.specs.Plans.{IsPlan};
 ghost use Rattle.plan_answers.specs.Fronts.{IsMissing};
 ghost use Rattle.plain_words.specs.Places.{named_text};
@@ -115,7 +115,7 @@ fn answer_unreadable(
     plan: TextFile<'_>,
     refusal: &PlanRefusal,
 ) -> Result<Answer, AllocError>
-    requires { IsUnread plan.bytes.now refusal.now }
+    requires { IsUnreadPlan plan.bytes.now refusal.now }
     ensures { IfOk result (λ answer. IsUnreadable (named_text plan.entry)
         answer.text.items (words_of answer.reason)) }
 {

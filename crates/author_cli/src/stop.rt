@@ -1,6 +1,6 @@
 //! How a call ends.
 ghost use Rattle.std.specs.Prelude.{◌≡◌};
-ghost use Rattle.author_cli.specs.Ends.{number_of};
+ghost use Rattle.author_cli.specs.Ends.{exit_number};
 
 use outside::{Failed, FileAnswer};
 use std::alloc::AllocError;
@@ -45,7 +45,7 @@ impl From<AllocError> for Stop {
 /// refused plan or table, of a run without inputs, of two flowcharts that differ, of a search that didn't show a plan safe, of
 /// findings, or of runs that come to less than the share asked for, and else why the call stopped.
 pub fn exit_number(ended: &Result<Option<String>, Stop>) -> u8
-    ensures { result ≡ number_of ended.now }
+    ensures { result ≡ exit_number ended.now }
 {
     match ended {
         Ok(None) => 0,

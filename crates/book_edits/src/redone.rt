@@ -2,7 +2,7 @@
 ghost use Rattle.std.specs.Prelude.{◌≡◌, length, IfOk};
 ghost use Rattle.book_year.specs.Accepted.{plans_in};
 ghost use Rattle.book_year.specs.Jobs.{Counts, total_cost};
-ghost use Rattle.book_year.specs.Picks.{before, after, ArePicks};
+ghost use Rattle.book_year.specs.Picks.{planned_before, planned_after, ArePicks};
 ghost use Rattle.book_year.specs.Years.{IsYear};
 ghost use Rattle.book_year.specs.YearClauses.{replan_cost};
 ghost use Rattle.book_edits.specs.Kept.{AreYears, years_of, jobs_in};
@@ -40,9 +40,11 @@ pub(crate) fn redo_years<L: Ledger>(
 ) -> Result<Redone, AllocError>
     requires picks { ArePicks picks.now }
     requires years { AreYears (plans_in picks.now.plans.now) years.now }
-    ensures done { IfOk result (AreRedone (before picks.now) (after picks.now) years.now) }
+    ensures done { IfOk result
+        (AreRedone (planned_before picks.now) (planned_after picks.now) years.now) }
     ensures counted { Counts result steps.old steps.new (total_cost
-        (jobs_in (before picks.now) (after picks.now) (years_of years.now) (years_of years.now))) }
+        (jobs_in (planned_before picks.now) (planned_after picks.now) (years_of years.now)
+        (years_of years.now))) }
 {
     let alloc = *years.list.allocator();
     let mut outcomes = Vec::new(alloc);
@@ -70,7 +72,8 @@ pub fn redo_year<L: Ledger>(
 ) -> Result<RedoneYear, AllocError>
     requires picks { ArePicks picks.now }
     requires year { IsYear (plans_in picks.now.plans.now) year.now }
-    ensures done { IfOk result (IsYearRedone (before picks.now) (after picks.now) year.now) }
+    ensures done { IfOk result
+        (IsYearRedone (planned_before picks.now) (planned_after picks.now) year.now) }
     ensures counted { Counts result steps.old steps.new (replan_cost picks.now year.now) }
 {
     if !picks.may_move(year.key.year) {

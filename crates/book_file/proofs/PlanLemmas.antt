@@ -5,7 +5,7 @@ use Rattle.payroll_records.specs.declared.day.Day.{Day}
 use Rattle.plan_calendar.specs.Picking.{Entry, plan_of}
 use Rattle.saved_items.specs.SavedBooks.{SavedPlan}
 use Rattle.pap_plan.specs.declared.refusal.PlanRefusal.{PlanRefusal}
-use Rattle.pap_plan.specs.Acceptance.{Answers, IsAccepted, Meaning}
+use Rattle.pap_plan.specs.Acceptance.{AcceptanceSays, IsAccepted, Meaning}
 use Rattle.pap_plan.proofs.Laws as plans
 use Rattle.book_year.specs.Accepted.{Accepted}
 use Rattle.recalc_engine.specs.BookLaws.{AreAcceptedPlans, IsAcceptedPlan}
@@ -39,7 +39,7 @@ never_both p h k = ok_or_err h.0 k.0 (plans.one p.plan p.limits (Ok h.0) (Err k.
 judged : (p : SavedPlan) → IsAcceptable p ⊎ IsUnacceptable p
 judged p = (let a = plans.some p.plan p.limits in by a.0 a.1)
   where
-    by : (a : Out) → Answers p.plan p.limits a → IsAcceptable p ⊎ IsUnacceptable p
+    by : (a : Out) → AcceptanceSays p.plan p.limits a → IsAcceptable p ⊎ IsUnacceptable p
     by (Ok m) h = inl (m, h)
     by (Err why) h = inr (why, h)
 

@@ -17,7 +17,7 @@ use Rattle.book_year.specs.declared.outcome.Work.{Work}
 use Rattle.book_year.specs.declared.chain.Ran.{Ran}
 use Rattle.plan_calendar.specs.Picking.{Entry}
 use Rattle.book_year.specs.Accepted.{Accepted}
-use Rattle.book_year.specs.Rows.{Planned, Job, row_of, row_filled, year_rows, earlier_of, outputs_in}
+use Rattle.book_year.specs.Rows.{Planned, Job, row_of, row_filled, year_rows, earlier_of, done_outputs}
 use Rattle.book_year.specs.Records.{records_of}
 use Rattle.book_year.specs.Jobs.{new_job, new_jobs, total_cost, Counts}
 use Rattle.book_year.specs.Kept.{kept, IsBounded}
@@ -96,11 +96,11 @@ module _ (planned : Planned) (old : Day → Option Job) (reads : Bool) (done : L
       let work = ap (λ (w : Work). w.runs) is.work in
       omega (arith, ap length jobs_next, length-append (new_jobs old (year_rows planned done)) new_next, walk.runs_are)
 
-  pub walk_more : (e : Earlier) (now' : ℕ) → e ≡ record { day = r.day; outputs = outputs_in ran.outcome.state } → now' ≡ now + ran.work.steps →
+  pub walk_more : (e : Earlier) (now' : ℕ) → e ≡ record { day = r.day; outputs = done_outputs ran.outcome.state } → now' ≡ now + ran.work.steps →
       IsWalk planned old reads (done ++ r ∷ []) (outcomes ++ ran.outcome ∷ []) (earlier ++ lent_if reads (e ∷ [])) (runs + ran.work.runs) (taken + ran.work.steps) began now'
   walk_more e now' e_is now_is =
       let row = row_of (planned r.day) earlier r in
-      let state : outputs_in ran.outcome.state ≡ outputs_in row.state = ap (λ (o : Outcome). outputs_in o.state) is.outcome in
+      let state : done_outputs ran.outcome.state ≡ done_outputs row.state = ap (λ (o : Outcome). done_outputs o.state) is.outcome in
       let read : e ≡ earlier_of row = e_is ∙ (λ i. record { day = sym (row_of_day (planned r.day) earlier r) i; outputs = state i }) in
       let long = length_push done r in
       record {

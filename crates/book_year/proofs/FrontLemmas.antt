@@ -19,10 +19,10 @@ use Rattle.book_year.specs.declared.chain.Old.{Old}
 use Rattle.book_year.specs.declared.picks.Edit.{Edit}
 use Rattle.book_year.specs.declared.picks.Picks.{Picks}
 use Rattle.book_year.specs.Records.{records_of}
-use Rattle.book_year.specs.Rows.{Planned, Row, rows, year_rows, earlier_of, outputs_in}
+use Rattle.book_year.specs.Rows.{Planned, Row, rows, year_rows, earlier_of, done_outputs}
 use Rattle.book_year.specs.Jobs.{new_jobs, total_cost}
 use Rattle.book_year.specs.Kept.{AreKept, IsBounded, IsOld, kept}
-use Rattle.book_year.specs.Picks.{before, after, after_by}
+use Rattle.book_year.specs.Picks.{planned_before, planned_after, after_by}
 use Rattle.book_year.specs.ChainClauses.{KeepsFront, old_jobs}
 use Rattle.book_year.proofs.RowLemmas.{rows_append, row_of_day}
 use Rattle.book_year.proofs.OldLemmas.{next, rows_length}
@@ -42,7 +42,7 @@ all_turned P Q [] f h = tt
 all_turned P Q (x ∷ xs) f h = (f x h.0, all_turned P Q xs f h.1)
 
 abbrev pub KeepsPlan : Picks → Record → Type 0
-KeepsPlan p r = after p r.day ≡ before p r.day
+KeepsPlan p r = planned_after p r.day ≡ planned_before p r.day
 
 pub all_front : {X : Type 0} (P : X → Type 0) (xs : List X) (n : ℕ) → AllByRecursion P xs → AllByRecursion P (take n xs)
 all_front P xs zero h = tt
@@ -53,7 +53,7 @@ and_no : (a b : Bool) → b ≡ false → (a && b) ≡ false
 and_no true b e = e
 and_no false b e = refl
 
--- an edit of the calendar leaves the days before it
+-- an edit of the calendar leaves the days planned_before it
 left_by : (plans : List (Entry Accepted)) (e : Edit) (d : Day) → day_cmp d e.day ≡ Less → after_by plans (Some e) d ≡ pick plans d
 left_by plans e d l =
     let late = ap (λ o. not (is_gt o)) (day_back d e.day l) in
@@ -93,7 +93,7 @@ rows_front planned rs n l =
 
 -- one more of the runs that are kept
 pub read_more : (planned : Planned) (rs : List Record) (os : List Outcome) (i : ℕ) (was now : List Earlier) (r : Record) (o : Outcome) → AreKept planned rs os → i < length rs → was ≡ map earlier_of (take i (year_rows planned rs)) →
-    r ≡ get_or rs i r → o ≡ get_or os i o → now ≡ was ++ record { day = r.day; outputs = outputs_in o.state } ∷ [] → now ≡ map earlier_of (take (i + 1) (year_rows planned rs))
+    r ≡ get_or rs i r → o ≡ get_or os i o → now ≡ was ++ record { day = r.day; outputs = done_outputs o.state } ∷ [] → now ≡ map earlier_of (take (i + 1) (year_rows planned rs))
 read_more planned rs os i was now r o are l done at read push =
     let d : Row = record { day = r.day; plan = None; job = None; state = state.NoPlan } in
     let all = year_rows planned rs in
@@ -102,7 +102,7 @@ read_more planned rs os i was now r o are l done at read push =
     let more = take_more all i d long in
     let same : o ≡ kept row = read ∙ ap (λ t. get_or t i o) are.are ∙ get_or-map kept all i d o long in
     let day : r.day ≡ row.day = ap (λ (x : Record). x.day) at ∙ sym (rows_day planned [] rs i d r l) in
-    let one : ◌≡◌ {A = Earlier} (record { day = r.day; outputs = outputs_in o.state }) (earlier_of row) = λ j. record { day = day j; outputs = outputs_in (same j).state } in
+    let one : ◌≡◌ {A = Earlier} (record { day = r.day; outputs = done_outputs o.state }) (earlier_of row) = λ j. record { day = day j; outputs = done_outputs (same j).state } in
     push ∙ (λ j. done j ++ one j ∷ []) ∙ sym (map_push earlier_of (take i all) row) ∙ ap (map earlier_of) (sym more)
 
 -- one of the first outcomes
@@ -126,15 +126,15 @@ bounded_read : (xs : List Row) → AllByRecursion IsBounded (map kept xs) → Al
 bounded_read [] h = tt
 bounded_read (x ∷ xs) h = (h.0, bounded_read xs h.1)
 
-pub walk_front : (p : Picks) (old : Old) (reads : Bool) (items : List (Bor Record)) (n : ℕ) (earlier : List Earlier) (began now : ℕ) → IsOld (before p) old → KeepsFront p old items n →
-    earlier ≡ lent_if reads (map earlier_of (take n (year_rows (before p) old.records.now))) → now ≡ began → IsWalk (after p) (old_jobs p old) reads (take n (records_of items)) (take n old.outcomes.now) earlier 0 0 began now
+pub walk_front : (p : Picks) (old : Old) (reads : Bool) (items : List (Bor Record)) (n : ℕ) (earlier : List Earlier) (began now : ℕ) → IsOld (planned_before p) old → KeepsFront p old items n →
+    earlier ≡ lent_if reads (map earlier_of (take n (year_rows (planned_before p) old.records.now))) → now ≡ began → IsWalk (planned_after p) (old_jobs p old) reads (take n (records_of items)) (take n old.outcomes.now) earlier 0 0 began now
 walk_front p old reads items n earlier began now is front are same =
     let rs = old.records.now in
-    let all = year_rows (before p) rs in
-    let these : year_rows (after p) (take n (records_of items)) ≡ take n all =
-    ap (year_rows (after p)) front.records ∙ rows_agree (after p) (before p) [] (take n rs) front.plans ∙ rows_front (before p) rs n front.within in
-    let none : new_jobs (old_jobs p old) (year_rows (after p) (take n (records_of items))) ≡ [] =
-    ap (new_jobs (old_jobs p old)) these ∙ none_new all (take n all) (all_front (IsFound all) all n (own_rows (before p) rs is.rising)) in
+    let all = year_rows (planned_before p) rs in
+    let these : year_rows (planned_after p) (take n (records_of items)) ≡ take n all =
+    ap (year_rows (planned_after p)) front.records ∙ rows_agree (planned_after p) (planned_before p) [] (take n rs) front.plans ∙ rows_front (planned_before p) rs n front.within in
+    let none : new_jobs (old_jobs p old) (year_rows (planned_after p) (take n (records_of items))) ≡ [] =
+    ap (new_jobs (old_jobs p old)) these ∙ none_new all (take n all) (all_front (IsFound all) all n (own_rows (planned_before p) rs is.rising)) in
     let first : take n old.outcomes.now ≡ map kept (take n all) = ap (take n) is.are ∙ take-map kept n all in
     let bounded = all_front IsBounded old.outcomes.now n is.bounded in
     record {

@@ -25,7 +25,7 @@ use Rattle.book_year.specs.declared.outcome.State.TheVariants as state
 use Rattle.book_year.specs.declared.outcome.Outcome.{Outcome}
 use Rattle.book_year.specs.declared.chain.OldJob.{OldJob}
 use Rattle.book_year.specs.Records.{record_day}
-use Rattle.book_year.specs.Rows.{Planned, Job, Row, row_of, row_filled, rows, year_rows, earlier_of, outputs_in}
+use Rattle.book_year.specs.Rows.{Planned, Job, Row, row_of, row_filled, rows, year_rows, earlier_of, done_outputs}
 use Rattle.book_year.specs.Jobs.{job_at}
 use Rattle.book_year.specs.Kept.{AreKept, IsBounded, kept}
 use Rattle.book_year.specs.private.ChainClauses.{outcome_job, outcome_parts, old_parts, IsOldJob}
@@ -48,8 +48,8 @@ row_sound None earlier r = tt
 row_sound (Some e) earlier r = filled_sound e r.day (filled (plan_of e) r.values earlier)
 
 -- what an outcome has kept is the old job, where there was one
-pub old_is : (was : Option (Entry Accepted)) (s : State) (j : Option Job) (result : Option OldJob) → JobIsSound was s j → AreBounded (outputs_in s) →
-    option_map old_parts result ≡ outcome_parts (option_map (λ j. j.inputs) j) (outputs_in s) → IsOldJob was j result
+pub old_is : (was : Option (Entry Accepted)) (s : State) (j : Option Job) (result : Option OldJob) → JobIsSound was s j → AreBounded (done_outputs s) →
+    option_map old_parts result ≡ outcome_parts (option_map (λ j. j.inputs) j) (done_outputs s) → IsOldJob was j result
 old_is was s None None sound bounded e = refl
 old_is was s None (Some o) sound bounded e = cc
 old_is was s (Some j) None sound bounded e = let f = rw sound.0 at e in cc
@@ -63,7 +63,7 @@ old_is was s (Some j) (Some o) sound bounded e =
       is = rw inputs;
       outputs = rw inputs outputs;
       planned = sound.1;
-      bounded = rw outputs (subst (λ t. AreBounded (outputs_in t)) sound.0 bounded);
+      bounded = rw outputs (subst (λ t. AreBounded (done_outputs t)) sound.0 bounded);
     }
 
 abbrev pub next : Planned → List Earlier → Record → List Earlier
@@ -118,5 +118,5 @@ module _ (planned : Planned) where
       let long = rows_length [] rs in
       let same : o ≡ kept row = read ∙ ap (λ t. get_or t i o) are.are ∙ get_or-map kept all i d o (omega (arith, h.within)) in
       let in_range : i < length outcomes = omega (arith, ap length are.are, length-map all kept, h.within) in
-      let bounded : AreBounded (outputs_in row.state) = subst (λ (t : Outcome). AreBounded (outputs_in t.state)) (sym read ∙ same) (all_at IsBounded outcomes i o are.bounded in_range) in
+      let bounded : AreBounded (done_outputs row.state) = subst (λ (t : Outcome). AreBounded (done_outputs t.state)) (sym read ∙ same) (all_at IsBounded outcomes i o are.bounded in_range) in
       rw (job_here rs k i d h) (old_is (planned k) row.state row.job result (rows_sound [] rs k i d h) bounded (e ∙ ap outcome_job same))

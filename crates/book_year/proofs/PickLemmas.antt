@@ -20,7 +20,7 @@ use Rattle.pap_plan.specs.Plans.{Seen}
 use Rattle.book_year.specs.Accepted.{Accepted, accepted_entry, plans_in}
 use Rattle.book_year.specs.declared.picks.Edit.{Edit}
 use Rattle.book_year.specs.Jobs.{has_texts}
-use Rattle.book_year.specs.Picks.{IsEdit, KnowsSame, entry_of, after_by, lent_entry}
+use Rattle.book_year.specs.Picks.{IsEdit, KnowsSame, edit_entry, after_by, lent_entry}
 
 and_both : (a b : Bool) → (a && b) ≡ true → (a ≡ true) × (b ≡ true)
 and_both true b e = (refl, e)
@@ -29,7 +29,7 @@ and_both false b e = cc
 -- where an edit decides the plan of a day, that day had the plan of the edit's day
 pub moved : (plans : List (Entry Accepted)) (e : Edit) (d : Day) → moves plans e.day d ≡ true → IsEdit plans (Some e) → KnowsSame (pick plans d) (after_by plans (Some e) d) e.same
 moved plans e d m knows =
-    let after_is : after_by plans (Some e) d ≡ entry_of e = ap (λ b. if b then entry_of e else pick plans d) m in
+    let after_is : after_by plans (Some e) d ≡ edit_entry e = ap (λ b. if b then edit_entry e else pick plans d) m in
     subst (λ o. KnowsSame o (after_by plans (Some e) d) e.same) (pick_same plans e.day d m)
     (subst (λ o. KnowsSame (pick plans e.day) o e.same) (sym after_is) knows)
 

@@ -14,13 +14,13 @@ use Rattle.book_year.specs.Records.{records_of}
 use Rattle.book_year.specs.Rows.{Planned, Job, year_rows}
 use Rattle.book_year.specs.Jobs.{new_jobs, total_cost, work_of}
 use Rattle.book_year.specs.Kept.{IsBounded, kept, job_by}
-use Rattle.book_year.specs.Picks.{before, after}
+use Rattle.book_year.specs.Picks.{planned_before, planned_after}
 
 -- the first runs, so many, are as they were, and so are their plans
 pub record KeepsFront (picks : Picks) (old : Old) (items : List (Bor Record)) (count : ℕ) : Type 0 where
   pub within : count ≤ length old.records.now
   pub records : take count (records_of items) ≡ take count old.records.now
-  pub plans : AllByRecursion (λ r. after picks r.day ≡ before picks r.day) (take count old.records.now)
+  pub plans : AllByRecursion (λ r. planned_after picks r.day ≡ planned_before picks r.day) (take count old.records.now)
 
 -- what a year computed anew came to, with the work of the jobs that aren't the old ones of their days
 pub record AreNew
@@ -37,15 +37,15 @@ pub record AreNew
 abbrev pub IsRecalculated : Planned → (Day → Option Job) → List Record → Recalculated → Type 0
 IsRecalculated planned old records r = AreNew planned old records r.outcomes.items r.work
 
--- the jobs that a day had before the edit
+-- the jobs that a day had planned_before the edit
 abbrev pub old_jobs : Picks → Old → Day → Option Job
-old_jobs picks old = job_by (before picks) old.records.now
+old_jobs picks old = job_by (planned_before picks) old.records.now
 
 -- the cost of the new jobs of these records
 abbrev pub chain_cost : Picks → Old → List (Bor Record) → ℕ
 chain_cost picks old items =
-    total_cost (new_jobs (old_jobs picks old) (year_rows (after picks) (records_of items)))
+    total_cost (new_jobs (old_jobs picks old) (year_rows (planned_after picks) (records_of items)))
 
--- the runs of a year, computed anew with the plans after an edit, come to this
+-- the runs of a year, computed anew with the plans planned_after an edit, come to this
 abbrev pub IsChain : Picks → Old → List (Bor Record) → Recalculated → Type 0
-IsChain picks old items r = IsRecalculated (after picks) (old_jobs picks old) (records_of items) r
+IsChain picks old items r = IsRecalculated (planned_after picks) (old_jobs picks old) (records_of items) r

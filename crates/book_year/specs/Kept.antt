@@ -11,7 +11,7 @@ pub use Rattle.carry_bindings.specs.Limits.{most_runs}
 use Rattle.book_year.specs.declared.outcome.Outcome.{Outcome}
 use Rattle.book_year.specs.declared.chain.Old.{Old}
 use Rattle.book_year.specs.Records.{record_day}
-use Rattle.book_year.specs.Rows.{Planned, Job, Row, year_rows, outputs_in}
+use Rattle.book_year.specs.Rows.{Planned, Job, Row, year_rows, done_outputs}
 use Rattle.book_year.specs.Jobs.{job_at}
 
 -- what is kept of a run
@@ -21,7 +21,7 @@ kept row =
 
 -- the outputs are within the bound of outputs
 abbrev pub IsBounded : Outcome → Type 0
-IsBounded o = AreBounded (outputs_in o.state)
+IsBounded o = AreBounded (done_outputs o.state)
 
 -- what is kept of a year is what computing it anew gives
 pub record AreKept

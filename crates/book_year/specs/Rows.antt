@@ -38,13 +38,13 @@ abbrev pub row_with : Day → Option Day → Option Job → State → Row
 row_with d plan job s = record { day = d; plan = plan; job = job; state = s }
 
 -- the run's outputs, where it has run
-abbrev pub outputs_in : State → Option (List NamedValue)
-outputs_in (state.Done outputs) = Some outputs
-outputs_in _ = None
+abbrev pub done_outputs : State → Option (List NamedValue)
+done_outputs (state.Done outputs) = Some outputs
+done_outputs _ = None
 
 -- what later runs of the year read of a run on this day, which came to this state
 abbrev pub read_of : Day → State → Earlier
-read_of d s = record { day = d; outputs = outputs_in s }
+read_of d s = record { day = d; outputs = done_outputs s }
 
 -- what later runs of the year may read of a row
 abbrev pub earlier_of : Row → Earlier

@@ -11,7 +11,7 @@ use Rattle.book_year.specs.Jobs.{total_cost, work_of}
 use Rattle.book_year.specs.Kept.{most_runs, job_by}
 use Rattle.book_year.specs.ChainClauses.{IsRecalculated}
 use Rattle.book_year.specs.declared.picks.Picks.{Picks}
-use Rattle.book_year.specs.Picks.{before, after}
+use Rattle.book_year.specs.Picks.{planned_before, planned_after}
 use Rattle.book_year.specs.Years.{IsYear, year_jobs}
 
 -- the year has these records now, and the work is that of its new jobs
@@ -39,9 +39,9 @@ edit_cost plans old records =
 -- the year computed anew for an edit of the calendar, and the cost of the jobs that are new then
 abbrev pub IsReplanned : Picks → Year → Recalculated → Type 0
 IsReplanned picks y r =
-    IsRecalculated (after picks) (job_by (before picks) y.records.items) y.records.items r
+    IsRecalculated (planned_after picks) (job_by (planned_before picks) y.records.items) y.records.items r
 
 -- the steps of the jobs that the calendar's edit makes new in a year
 abbrev pub replan_cost : Picks → Year → ℕ
 replan_cost picks y =
-    total_cost (year_jobs (before picks) (after picks) y.records.items y.records.items)
+    total_cost (year_jobs (planned_before picks) (planned_after picks) y.records.items y.records.items)

@@ -13,7 +13,7 @@ ghost use Rattle.book_year.specs.Accepted.{Accepted};
 ghost use Rattle.book_year.specs.Rows.{Job, job_of, row_of, row_filled};
 ghost use Rattle.book_year.specs.Jobs.{same_inputs, new_job, Counts};
 ghost use Rattle.book_year.specs.Kept.{IsOld};
-ghost use Rattle.book_year.specs.Picks.{before, after, KnowsSame, ArePicks, picked_entry};
+ghost use Rattle.book_year.specs.Picks.{planned_before, planned_after, KnowsSame, ArePicks, picked_plan};
 ghost use Rattle.book_year.specs.private.ChainClauses.{old_parts, outcome_job, IsOldJob, KeepsOutputs, IsRan, CountsRun};
 ghost use Rattle.book_year.specs.ChainClauses.{old_jobs, chain_cost, IsChain, KeepsFront};
 ghost use Rattle.book_year.specs.private.ChainClauses.{IsChainRest, PlanReadsNothing};
@@ -85,7 +85,7 @@ pub fn recalculate<L: Ledger>(
     steps: &mut Steps<L>,
 ) -> Result<Recalculated, AllocError>
     requires picks { ArePicks picks.now }
-    requires old { IsOld (before picks.now) old }
+    requires old { IsOld (planned_before picks.now) old }
     requires front { KeepsFront picks.now old records.now kept }
     requires few { length records.now ≤ most_runs }
     ensures done { IfOk result (IsChain picks.now old.entry records.now) }
@@ -112,7 +112,7 @@ pub(crate) fn recalculate_rest<L: Ledger>(
     steps: &mut Steps<L>,
 ) -> Result<Rest, AllocError>
     requires picks { ArePicks picks.now }
-    requires old { IsOld (before picks.now) old }
+    requires old { IsOld (planned_before picks.now) old }
     requires front { KeepsFront picks.now old records.now kept }
     requires few { length records.now ≤ most_runs }
     ensures kept { IfOk result (λ rest. rest.kept ≡ kept) }
@@ -146,7 +146,7 @@ pub(crate) fn recalculate_rest<L: Ledger>(
 fn some_reads(picks: &Picks, records: &[&Record]) -> bool
     requires { ArePicks picks.now }
     ensures { OnFalse result
-        (All (λ item. PlanReadsNothing (after picks.now item.now.day)) records.now) }
+        (All (λ item. PlanReadsNothing (planned_after picks.now item.now.day)) records.now) }
 {
     for item in records {
         if plan_reads(picks, item.day) {
@@ -159,7 +159,7 @@ fn some_reads(picks: &Picks, records: &[&Record]) -> bool
 /// Whether a day has a plan that reads what earlier runs came to.
 fn plan_reads(picks: &Picks, day: Day) -> bool
     requires { ArePicks picks.now }
-    ensures { OnFalse result (PlanReadsNothing (after picks.now day)) }
+    ensures { OnFalse result (PlanReadsNothing (planned_after picks.now day)) }
 {
     match picks.pick(day) {
         Some(picked) => reads_earlier(picked.plan),
@@ -205,9 +205,9 @@ fn run_job<L: Ledger>(
 ) -> Result<Ran, AllocError>
     requires { Admits picked.plan.now inputs }
     ensures ran { (was : Option (Entry Accepted)) (job : Option Job) (day : Date)
-        → KnowsSame was (Some (picked_entry picked.entry)) picked.entry.same
+        → KnowsSame was (Some (picked_plan picked.entry)) picked.entry.same
         → IsOldJob was job old.entry
-        → IfOk result (IsRan (row_filled (picked_entry picked.entry) day (HasInputs inputs)) job) }
+        → IfOk result (IsRan (row_filled (picked_plan picked.entry) day (HasInputs inputs)) job) }
     ensures counted { CountsRun result steps.old steps.new }
 {
     if let Some(outputs) = kept_outputs(old, picked.same, &inputs) {
@@ -252,11 +252,11 @@ fn next_run<L: Ledger>(
     steps: &mut Steps<L>,
 ) -> Result<Ran, AllocError>
     requires picks { ArePicks picks.now }
-    requires old { IsOld (before picks.now) old }
+    requires old { IsOld (planned_before picks.now) old }
     requires few { length earlier.now ≤ most_runs }
     requires bounded { AllByRecursion (λ e. AreBounded e.outputs) earlier.now }
     ensures ran { IfOk result
-        (IsRan (row_of (after picks.now item.now.day) earlier.now item.now)
+        (IsRan (row_of (planned_after picks.now item.now.day) earlier.now item.now)
         (old_jobs picks.now old.entry item.now.day)) }
     ensures counted { CountsRun result steps.old steps.new }
 {
@@ -294,8 +294,8 @@ fn idle(plan: Option<Day>, state: State) -> Ran
 
 /// The job that a day had, where it had one.
 fn old_job<'a>(picks: &Picks, old: Old<'a>, day: Day) -> Option<OldJob<'a>>
-    requires { IsOld (before picks.now) old }
-    ensures { IsOldJob (before picks.now day) (old_jobs picks.now old.entry day) result }
+    requires { IsOld (planned_before picks.now) old }
+    ensures { IsOldJob (planned_before picks.now day) (old_jobs picks.now old.entry day) result }
 {
     let Ok(at) = place_run(old.records, day) else {
         return None;

@@ -1,7 +1,7 @@
 //! The runs of a year that are done.
 ghost use Rattle.std.specs.Prelude.{◌≡◌, ◌≤◌, ◌++◌, [], ◌∷◌, length, map, take, IfOk, OnOk};
 ghost use Rattle.book_year.specs.Kept.{IsOld};
-ghost use Rattle.book_year.specs.Rows.{Planned, earlier_of, outputs_in, read_of, year_rows};
+ghost use Rattle.book_year.specs.Rows.{Planned, earlier_of, done_outputs, read_of, year_rows};
 ghost use Rattle.book_year.specs.private.ChainClauses.{lent_if};
 
 use crate::chain::Old;
@@ -93,7 +93,7 @@ pub(crate) fn copied(
 
 /// What later runs read of a state.
 fn outputs_of(alloc: Global, state: &State) -> Result<Option<Items<NamedValue>>, AllocError>
-    ensures { IfOk result (λ outputs. outputs ≡ outputs_in state.now) }
+    ensures { IfOk result (λ outputs. outputs ≡ done_outputs state.now) }
 {
     match state {
         State::Done(outputs) => Ok(Some(copy_of(alloc, outputs)?)),

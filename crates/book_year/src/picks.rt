@@ -6,8 +6,8 @@ ghost use Rattle.payroll_records.specs.declared.day.Day.{Day as Date};
 ghost use Rattle.plan_calendar.specs.Picking.{day_of, pick, serves};
 ghost use Rattle.plan_calendar.specs.Edits.{is_by, picked_after};
 ghost use Rattle.book_year.specs.Accepted.{plans_in};
-ghost use Rattle.book_year.specs.Picks.{before, after, is_edited, KnowsSame, ArePicks};
-ghost use Rattle.book_year.specs.Picks.{lent_entry, picked_entry};
+ghost use Rattle.book_year.specs.Picks.{planned_before, planned_after, is_edited, KnowsSame, ArePicks};
+ghost use Rattle.book_year.specs.Picks.{lent_entry, picked_plan};
 
 use pap_plan::Plan;
 use payroll_records::Day;
@@ -49,8 +49,8 @@ impl<'a> Picks<'a> {
     /// once. A plan with the texts of the one that stood at its day changes nothing, so it is no edit.
     pub fn edited(plans: &'a Calendar<Plan>, day: Day, entry: Option<(Day, &'a Plan)>) -> Picks<'a>
         ensures are { ArePicks result }
-        ensures before { (d : Date) → before result d ≡ pick (plans_in plans.now) d }
-        ensures after { (d : Date) → after result d
+        ensures before { (d : Date) → planned_before result d ≡ pick (plans_in plans.now) d }
+        ensures after { (d : Date) → planned_after result d
             ≡ picked_after (plans_in plans.now) day (option_map lent_entry entry.entry) d }
     {
         let was = picked_now(plans, day);
@@ -67,9 +67,9 @@ impl<'a> Picks<'a> {
     /// The plan of a day after the edit.
     pub fn pick(&self, day: Day) -> Option<Picked<'a>>
         requires { ArePicks self.now }
-        ensures after { option_map picked_entry result ≡ after self.now day }
+        ensures after { option_map picked_plan result ≡ planned_after self.now day }
         ensures same { IfSome result
-            (λ p. KnowsSame (before self.now day) (after self.now day) p.same) }
+            (λ p. KnowsSame (planned_before self.now day) (planned_after self.now day) p.same) }
     {
         let now = picked_now(self.plans, day);
         if let Some(edit) = self.edit
@@ -98,7 +98,7 @@ impl<'a> Picks<'a> {
     pub fn may_move(&self, year: u16) -> bool
         ensures exact { result ≡ is_edited self.now year }
         ensures stays { OnFalse result
-            ((d : Date) → d.year ≡ year → after self.now d ≡ before self.now d) }
+            ((d : Date) → d.year ≡ year → planned_after self.now d ≡ planned_before self.now d) }
     {
         match self.edit {
             None => false,

@@ -6,7 +6,7 @@ ghost use Rattle.rising_lists.specs.Keyed.{IsRising};
 ghost use Rattle.payroll_records.specs.Orders.{day_cmp};
 ghost use Rattle.plan_calendar.specs.Picking.{Entry};
 ghost use Rattle.book_year.specs.Accepted.{Accepted, plans_in};
-ghost use Rattle.book_year.specs.Picks.{ArePicks, before, after};
+ghost use Rattle.book_year.specs.Picks.{ArePicks, planned_before, planned_after};
 ghost use Rattle.book_year.specs.Jobs.{Counts};
 ghost use Rattle.book_year.specs.Records.{put_run, record_day, without_run};
 ghost use Rattle.book_year.specs.Years.{IsOwn, IsYear, YearsStay, YearsFollowPlans};
@@ -160,7 +160,8 @@ impl Year {
 fn unmoved(picks: &Picks, records: &[Record]) -> usize
     requires { IsRising day_cmp record_day records.now }
     ensures within { result ≤ length records.now }
-    ensures plans { AllByRecursion (λ r. after picks.now r.day ≡ before picks.now r.day)
+    ensures plans { AllByRecursion
+        (λ r. planned_after picks.now r.day ≡ planned_before picks.now r.day)
         (take result records.now) }
 {
     match picks.edit {

@@ -16,7 +16,7 @@ use Rattle.call_order.specs.Graphs.{executed, content_of, graph_of}
 use Rattle.call_order.specs.Chains.{Executes, BeginsMore, content_at}
 use Rattle.call_order.specs.Expanded.{expanded, expanded_of}
 use Rattle.call_order.specs.Orders.{HasShortChains}
-use Rattle.call_order.specs.ChainLaws.{Names, DoesAsBody, BodyDoesTheSame, IsSameBound, AreClosed}
+use Rattle.call_order.specs.ChainLaws.{NamesBody, DoesAsBody, BodyDoesTheSame, IsSameBound, AreClosed}
 use Rattle.call_order.proofs.Numbers.{method_number, method_of}
 use Rattle.call_order.specs.Executed.{EachExecuted}
 use Rattle.call_order.proofs.Executed.{each_weaker, IsNamed, AreNamed, are_named}
@@ -169,7 +169,7 @@ module _ (f : Flowchart) (typed : IsWellTyped f) (short : HasShortChains f) wher
   same_calls : (n : ℕ) → 64 ≤ n → (x : List ℕ) → Ends f.methods 64 x → Same (scope_of f) (calls_of (scope_of f) f.methods 64) (calls_of (scope_of f) f.methods n) x
   same_calls n le x e = stays f.methods (SameCalls (scope_of f) f.methods) (more_calls (scope_of f) f.methods) 64 n x e le
 
-  does_as_body : (x : List ℕ) (b : Body) → Names f x b → (env : Env) → DoesAsBody f x b env
+  does_as_body : (x : List ℕ) (b : Body) → NamesBody f x b → (env : Env) → DoesAsBody f x b env
   does_as_body x b is env =
       let h = same_calls 65 (omega arith) x (all_end x b is) env in
       record {
@@ -203,18 +203,18 @@ module _ (f : Flowchart) (typed : IsWellTyped f) (short : HasShortChains f) wher
   }
 
   -- What holds of a method where it holds of all that it executes, holds of each method.
-  pub by_execution : (P : List ℕ → Type 0) → ((x : List ℕ) (b : Body) → Names f x b → EachExecuted P b → P x) → (x : List ℕ) (b : Body) → Names f x b → P x
+  pub by_execution : (P : List ℕ → Type 0) → ((x : List ℕ) (b : Body) → NamesBody f x b → EachExecuted P b → P x) → (x : List ℕ) (b : Body) → NamesBody f x b → P x
   by_execution P step x b is =
-      all_down f.methods (λ y. (c : Body) → Names f y c → P y) (λ y h c at. step y c at (named_down P c (h c at) (names.methods y c at))) 64 x (all_end x b is) b is
+      all_down f.methods (λ y. (c : Body) → NamesBody f y c → P y) (λ y h c at. step y c at (named_down P c (h c at) (names.methods y c at))) 64 x (all_end x b is) b is
     where
-      named_down : (P : List ℕ → Type 0) (c : Body) → EachExecuted (λ y. (d : Body) → Names f y d → P y) c → EachExecuted (IsNamed f.methods) c → EachExecuted P c
+      named_down : (P : List ℕ → Type 0) (c : Body) → EachExecuted (λ y. (d : Body) → NamesBody f y d → P y) c → EachExecuted (IsNamed f.methods) c → EachExecuted P c
       named_down P done h k = tt
       named_down P (eval y e rest) h k = named_down P rest h k
       named_down P (branch t a b rest) h k = (named_down P a h.0 k.0, named_down P b h.1 k.1, named_down P rest h.2 k.2)
       named_down P (execute m rest) h k = (let n = named_some (body_named f.methods m) k.0 in h.0 n.0 n.1, named_down P rest h.1 k.1)
 
   -- What agrees at two bounds on chains where it agrees of all that is executed, agrees at 64 and at any greater bound.
-  pub by_bounds : (R : ℕ → ℕ → List ℕ → Type 0) → ((n k : ℕ) (x : List ℕ) → ((b : Body) → Names f x b → EachExecuted (R n k) b) → R (suc n) (suc k) x) → (n : ℕ) → 64 ≤ n → (x : List ℕ) (b : Body) → Names f x b → R 64 n x
+  pub by_bounds : (R : ℕ → ℕ → List ℕ → Type 0) → ((n k : ℕ) (x : List ℕ) → ((b : Body) → NamesBody f x b → EachExecuted (R n k) b) → R (suc n) (suc k) x) → (n : ℕ) → 64 ≤ n → (x : List ℕ) (b : Body) → NamesBody f x b → R 64 n x
   by_bounds R step n le x b is = stays f.methods R step 64 n x (all_end x b is) le
 
   pub chains_close : AreClosed f

@@ -14,8 +14,8 @@ use Rattle.call_order.specs.Expanded.{expanded, expanded_of}
 use Rattle.call_order.specs.Orders.{HasShortChains}
 
 -- a name is that of the method of this body
-abbrev pub Names : Flowchart → List ℕ → Body → Type 0
-Names f m b = body_named f.methods m ≡ Some b
+abbrev pub NamesBody : Flowchart → List ℕ → Body → Type 0
+NamesBody f m b = body_named f.methods m ≡ Some b
 
 -- what a method does is what its body does
 pub record DoesAsBody (f : Flowchart) (m : List ℕ) (b : Body) (env : Env) : Type 0 where
@@ -46,19 +46,19 @@ pub record IsSameBound (f : Flowchart) (n : ℕ) : Type 0 where
       body_bound (method_bound f.methods n) f.main ≡ body_bound (method_bound f.methods longest_chain) f.main
   pub main_expanded :
       expanded (expanded_of f.methods n) f.main ≡ expanded (expanded_of f.methods longest_chain) f.main
-  pub does : (m : List ℕ) (b : Body) → Names f m b → (env : Env)
+  pub does : (m : List ℕ) (b : Body) → NamesBody f m b → (env : Env)
       → DoTheSame (calls_of (scope_of f) f.methods n) (calls_in f) m env
-  pub bound : (m : List ℕ) (b : Body) → Names f m b
+  pub bound : (m : List ℕ) (b : Body) → NamesBody f m b
       → method_bound f.methods n m ≡ method_bound f.methods longest_chain m
-  pub expanded : (m : List ℕ) (b : Body) → Names f m b
+  pub expanded : (m : List ℕ) (b : Body) → NamesBody f m b
       → expanded_of f.methods n m ≡ expanded_of f.methods longest_chain m
 
 -- each method by its body, and any bound from 64 on as good
 pub record AreClosed (f : Flowchart) : Type 0 where
-  pub does : (m : List ℕ) (b : Body) → Names f m b → (env : Env) → DoesAsBody f m b env
-  pub bound : (m : List ℕ) (b : Body) → Names f m b
+  pub does : (m : List ℕ) (b : Body) → NamesBody f m b → (env : Env) → DoesAsBody f m b env
+  pub bound : (m : List ℕ) (b : Body) → NamesBody f m b
       → method_bound f.methods longest_chain m ≡ body_bound (method_bound f.methods longest_chain) b
-  pub expanded : (m : List ℕ) (b : Body) → Names f m b
+  pub expanded : (m : List ℕ) (b : Body) → NamesBody f m b
       → expanded_of f.methods longest_chain m ≡ expanded (expanded_of f.methods longest_chain) b
   pub longer : (n : ℕ) → longest_chain ≤ n → IsSameBound f n
 

@@ -14,13 +14,13 @@ use Rattle.scaled_decimal.specs.Limits.{IsWithinLimit, limit as most}
 use Rattle.scaled_decimal.proofs.Laws.{le_times, aligned_order}
 use Rattle.pap_types.specs.Kinds.{has_few_places}
 use Rattle.limits_file.specs.declared.limits.InputLimit.{InputLimit}
-use Rattle.limits_file.specs.Limits.{Fits, IsAtMost, IsFactorLimit}
+use Rattle.limits_file.specs.Limits.{Fits, IsNoGreater, IsFactorLimit}
 use Rattle.carry_bindings.specs.Filling.{FitsIsTold, fits}
 use Rattle.carry_bindings.proofs.AmountLemmas.{longer}
 
 -- ---- what is told
 
-at_most_told : (a b : Decimal) → Decides (not (is_gt (value_order a b))) (IsAtMost a b)
+at_most_told : (a b : Decimal) → Decides (not (is_gt (value_order a b))) (IsNoGreater a b)
 at_most_told a b = (not-true (is_gt (value_order a b)), not_from_false (is_gt (value_order a b)))
 
 places_told : (m n : ℕ) → Decides (nat_le m n) (m ≤ n)
@@ -46,7 +46,7 @@ at_most x y h = by (int_cmp x y) (int_ranks x y) h
     by Equal m t = omega (arith, ints)
     by Greater m t = absurd (true≢false t)
 
-order_at : (a b : Decimal) → scale_of a ≤ 3 → scale_of b ≤ 3 → IsAtMost a b → numerator_at 3 a ≤ℤ numerator_at 3 b
+order_at : (a b : Decimal) → scale_of a ≤ 3 → scale_of b ≤ 3 → IsNoGreater a b → numerator_at 3 a ≤ℤ numerator_at 3 b
 order_at a b l k h =
     let s = greater_scale a b in
     let le = at_most (numerator_at s a) (numerator_at s b) (ap is_gt (aligned_order a b) ∙ h) in

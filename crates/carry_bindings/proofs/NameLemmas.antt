@@ -21,7 +21,7 @@ use Rattle.limits_file.specs.declared.slots.Slot.{Slot}
 use Rattle.payroll_records.specs.NamedValues.{name_cmp, name_of, place_at}
 use Rattle.limits_file.specs.declared.limits.Carry.{Carry}
 use Rattle.payroll_records.specs.declared.values.NamedValue.{NamedValue}
-use Rattle.carry_bindings.specs.Filling.{given, takes, unknown}
+use Rattle.carry_bindings.specs.Filling.{given_or_default, takes, unknown}
 
 one_more : (slots : List Slot) (i : ℕ) (s : Slot) (q : List ℕ) → i < length slots → s ≡ get_or slots i s →
     takes (take (i + 1) slots) q ≡ (takes (take i slots) q || ((bytes_eq s.name q && is_none s.carry) || false))
@@ -116,13 +116,13 @@ taken_at slots (v ∷ vs) zero name b l is at = at ∙ ap (takes slots) (sym is)
 taken_at slots (v ∷ vs) (suc i) name b l is at = taken_at slots vs i name b (omega arith) is at
 
 -- the number at the place of a name
-pub given_at : (values : List NamedValue) (s : Slot) (i : ℕ) (x : Decimal) → place_at values s.name ≡ Some i → x ≡ get_or (map (λ v. v.value) values) i x → given values s ≡ Some x
+pub given_at : (values : List NamedValue) (s : Slot) (i : ℕ) (x : Decimal) → place_at values s.name ≡ Some i → x ≡ get_or (map (λ v. v.value) values) i x → given_or_default values s ≡ Some x
 given_at values s i x e is =
     let d : NamedValue = record { name = []; value = x } in
     let at = at_place values s.name ∙ ap (option_and_then (slice_get values)) e ∙ slice_get-get_or values i d (place_within values s.name i e) in
     rw at (ap (λ y. Some y) (sym (map_at (λ v. v.value) values i d) ∙ sym is))
 
-pub given_none : (values : List NamedValue) (s : Slot) → place_at values s.name ≡ None → given values s ≡ s.value
+pub given_none : (values : List NamedValue) (s : Slot) → place_at values s.name ≡ None → given_or_default values s ≡ s.value
 given_none values s e = rw (at_place values s.name, e) refl
 
 -- the values from a place on, whose first name some slot takes, or none does

@@ -38,18 +38,18 @@ abbrev pub unknown : List Slot → List NamedValue → Option (List ℕ)
 unknown slots values = option_map (λ v. v.name) (find (λ v. not (takes slots v.name)) values)
 
 -- the record's value of an input, or else its default
-abbrev pub given : List NamedValue → Slot → Option Decimal
-given values s = option_or (option_map (λ v. v.value) (value_at values s.name)) s.value
+abbrev pub given_or_default : List NamedValue → Slot → Option Decimal
+given_or_default values s = option_or (option_map (λ v. v.value) (value_at values s.name)) s.value
 
--- the value of an input: what it carries, or else what is given
+-- the value of an input: what it carries, or else what is given_or_default
 abbrev pub value_by : Option Carry → Option Decimal → List Earlier → Option Decimal
-value_by (Some carry) given earlier = Some (carried carry earlier)
-value_by None given earlier = given
+value_by (Some carry) given_or_default earlier = Some (carried carry earlier)
+value_by None given_or_default earlier = given_or_default
 
 -- an input's value: what it carries over from earlier runs, or the record's value, or its default; none where it has
 -- none of these
 abbrev pub value_of : List NamedValue → List Earlier → Slot → Option Decimal
-value_of values earlier s = value_by s.carry (given values s) earlier
+value_of values earlier s = value_by s.carry (given_or_default values s) earlier
 
 -- 3. the first declared input without a value: it doesn't carry, and the record and the declaration give none
 abbrev pub missing : List Slot → List NamedValue → List Earlier → Option (List ℕ)

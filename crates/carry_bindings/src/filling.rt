@@ -4,7 +4,7 @@ ghost use Rattle.std.specs.Bool.{OnFalse};
 ghost use Rattle.std.specs.List.{AllByRecursion};
 ghost use Rattle.carry_bindings.specs.Conditions.{AreBounded, KeepsFactorLimit};
 ghost use Rattle.carry_bindings.specs.Limits.{most_runs};
-ghost use Rattle.carry_bindings.specs.Filling.{FitsIsTold, ReadsNothing, filled_by, given, has_carry};
+ghost use Rattle.carry_bindings.specs.Filling.{FitsIsTold, ReadsNothing, filled_by, given_or_default, has_carry};
 ghost use Rattle.carry_bindings.specs.Filling.{value_of, waits};
 ghost use Rattle.carry_bindings.specs.private.OutputViews.{AreAlike};
 ghost use Rattle.carry_bindings.specs.private.Views.{IsFound, IsSofar};
@@ -156,7 +156,7 @@ fn many_carry(slots: &[Slot]) -> bool {
 /// The record's value of an input, which stands at a place of its values, or else the input's default.
 fn given(values: &Values, place: Option<usize>, slot: &Slot) -> Option<Dec>
     requires { place ≡ place_at values.now slot.now.name }
-    ensures { result ≡ given values.now slot.now }
+    ensures { result ≡ given_or_default values.now slot.now }
 {
     match place {
         Some(at) => Some(values.numbers()[at]),

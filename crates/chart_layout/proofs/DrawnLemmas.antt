@@ -17,7 +17,7 @@ use Rattle.chart_layout.specs.declared.figure.Figure.TheFolds.{fold-roll-Figure}
 use Rattle.chart_layout.specs.declared.figure.Body.{Body, out-Body, fold_out-Body}
 use Rattle.chart_layout.specs.declared.choice.Arm.{Arm, out-Arm, fold_out-Arm, Arm-F, roll-Arm, fold-roll-Arm}
 use Rattle.chart_layout.specs.declared.choice.Choice.{Choice, out-Choice, fold_out-Choice, Choice-F, roll-Choice, fold-roll-Choice}
-use Rattle.chart_layout.specs.Drawn.{Drawn, drawn_statement, drawn_call, joined, joined_back, figure_step, arm_step, choice_step, body_step, body_statements, row_statements, part_statements, drawing_statements, drawing_rows}
+use Rattle.chart_layout.specs.Drawn.{Drawn, drawn_statement, drawn_call, concatenated, joined_back, figure_step, arm_step, choice_step, body_step, body_statements, row_statements, part_statements, drawing_statements, drawing_rows}
 use Rattle.chart_layout.specs.private.Drawn.{figure_statements, arm_statements, choice_statements, figures_statements}
 
 -- ---- parts
@@ -56,7 +56,7 @@ by_parts (p ∷ parts) =
 
 -- ---- figures
 
-pub body_is : (b : Body) → body_statements b ≡ joined (map figure_statements (out-Body b).figures.items)
+pub body_is : (b : Body) → body_statements b ≡ concatenated (map figure_statements (out-Body b).figures.items)
 body_is = fold_out-Body (List Drawn) (List Drawn) (List Drawn) (List Drawn) figure_step arm_step choice_step body_step
 
 pub arm_is : (a : Arm) → arm_statements a ≡ drawn_statement (out-Arm a).test ∷ body_statements (out-Arm a).then

@@ -11,7 +11,7 @@ use Rattle.chart_layout.specs.declared.leads.Exit.{Exit}
 use Rattle.chart_layout.specs.declared.leads.Exit.TheVariants.{Below}
 use Rattle.chart_layout.specs.declared.leads.Entry.TheVariants.{Into}
 use Rattle.chart_layout.specs.declared.leads.Lead.{Lead}
-use Rattle.chart_layout.specs.Drawn.{Drawn, joined}
+use Rattle.chart_layout.specs.Drawn.{Drawn, concatenated}
 use Rattle.chart_layout.specs.Trees.{Tree, stop, step, fork, above, stacked, row_tree}
 use Rattle.chart_layout.specs.Leads.{at_way, leads, leaving, lines, ways_of}
 use Rattle.chart_layout.specs.private.Leads.{end_behind, Leaves, LeavesArm}
@@ -198,12 +198,12 @@ pub row_leaving_all : (row : List Statement) (i : ℕ) (here all : List Exit) �
 row_leaving_all row i here all done so_far = ap (λ l. leaving here (row_tree l)) (sym (drop_all i row done)) ∙ so_far
 
 pub statements_next : {A : Type 0} (f : A → List Drawn) (xs : List A) (i : ℕ) (x : A) (now new all : List Drawn) → i < length xs → x ≡ get_or xs i x
-    → new ≡ now ++ f x → now ++ joined (map f (drop i xs)) ≡ all → new ++ joined (map f (drop (i + 1) xs)) ≡ all
+    → new ≡ now ++ f x → now ++ concatenated (map f (drop i xs)) ≡ all → new ++ concatenated (map f (drop (i + 1) xs)) ≡ all
 statements_next f xs i x now new all some is grown so_far =
-    let rest = joined (map f (drop (i + 1) xs)) in
+    let rest = concatenated (map f (drop (i + 1) xs)) in
     ap (λ l. l ++ rest) grown
     ∙ append_assoc now (f x) rest
-    ∙ ap (λ l. now ++ l) (ap (λ y. f y ++ rest) is ∙ ap (λ l. joined (map f l)) (sym (drop_more xs i x some)))
+    ∙ ap (λ l. now ++ l) (ap (λ y. f y ++ rest) is ∙ ap (λ l. concatenated (map f l)) (sym (drop_more xs i x some)))
     ∙ so_far
 
 -- what leaves a branch, which then meets its rail or ends beside it

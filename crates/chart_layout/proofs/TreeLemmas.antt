@@ -20,7 +20,7 @@ use Rattle.chart_layout.specs.declared.choice.Choice.{Choice, out-Choice, fold_o
 use Rattle.chart_layout.specs.Statements.{statements_of, next_number, number_behind}
 use Rattle.chart_layout.specs.private.Statements.{statements_in}
 use Rattle.chart_layout.proofs.AddingLemmas.{behind_append}
-use Rattle.chart_layout.specs.Trees.{Tree, stop, step, fork, above, row_tree, nested, figure_shows, arm_shows, choice_shows, body_shows, shown, drawing_of}
+use Rattle.chart_layout.specs.Trees.{Tree, stop, step, fork, above, row_tree, nested, figure_shows, arm_shows, choice_shows, body_shows, shown_tree, drawing_of}
 use Rattle.chart_layout.specs.private.Trees.{figure_tree, arm_tree, choice_tree, figures_tree, drawing_in, behind_arms}
 
 -- ---- trees one above another
@@ -37,19 +37,19 @@ above_assoc (fork n a b t) u v = ap (fork n a b) (above_assoc t u v)
 
 -- ---- what figures show, by their parts
 
-pub arm_tree_is : (a : Arm) (otherwise : Tree) → arm_tree a otherwise ≡ fork (out-Arm a).test.number (shown (out-Arm a).then) otherwise stop
+pub arm_tree_is : (a : Arm) (otherwise : Tree) → arm_tree a otherwise ≡ fork (out-Arm a).test.number (shown_tree (out-Arm a).then) otherwise stop
 arm_tree_is a otherwise = ap (λ f. f otherwise) (fold_out-Arm Tree (Tree → Tree) Tree Tree figure_shows arm_shows choice_shows body_shows a)
 
 pub choice_tree_is : (c : Choice) → choice_tree c
-    ≡ arm_tree (out-Choice c).first (nested (map arm_tree (out-Choice c).later.items) (shown (out-Choice c).otherwise))
+    ≡ arm_tree (out-Choice c).first (nested (map arm_tree (out-Choice c).later.items) (shown_tree (out-Choice c).otherwise))
 choice_tree_is = fold_out-Choice Tree (Tree → Tree) Tree Tree figure_shows arm_shows choice_shows body_shows
 
 pub choice_tree_roll : (x : Choice-F Figure Arm Choice Body) → choice_tree (roll-Choice x)
-    ≡ arm_tree x.first (nested (map arm_tree x.later.items) (shown x.otherwise))
+    ≡ arm_tree x.first (nested (map arm_tree x.later.items) (shown_tree x.otherwise))
 choice_tree_roll = fold-roll-Choice Tree (Tree → Tree) Tree Tree figure_shows arm_shows choice_shows body_shows
 
 pub arm_tree_roll : (x : Arm-F Figure Arm Choice Body) (otherwise : Tree)
-    → arm_tree (roll-Arm x) otherwise ≡ fork x.test.number (shown x.then) otherwise stop
+    → arm_tree (roll-Arm x) otherwise ≡ fork x.test.number (shown_tree x.then) otherwise stop
 arm_tree_roll x otherwise = ap (λ f. f otherwise) (fold-roll-Arm Tree (Tree → Tree) Tree Tree figure_shows arm_shows choice_shows body_shows x)
 
 pub tree_of_note : (n : Note) → figure_tree (variants.Note n) ≡ stop
@@ -129,7 +129,7 @@ tree_cascaded first note choice grown is =
     let x : Choice-F Figure Arm Choice Body = record { first = first; later = grown; otherwise = (out-Choice choice).otherwise } in
     let y : Arm-F Figure Arm Choice Body = record { note = note; test = (out-Arm (out-Choice choice).first).test; then = (out-Arm (out-Choice choice).first).then } in
     let later = (out-Choice choice).later.items in
-    let otherwise = shown (out-Choice choice).otherwise in
+    let otherwise = shown_tree (out-Choice choice).otherwise in
     let rest = nested (map arm_tree later) otherwise in
     choice_tree_roll x
     ∙ ap (arm_tree first)
@@ -212,18 +212,18 @@ tree_as old new from to t u first last same grown = sym last ∙ grown ∙ ap (�
 -- ---- an IF by its arms
 
 pub choice_first : (c : Choice) (left : ℕ) → length (out-Choice c).later.items ≤ left
-    → fork (out-Arm (out-Choice c).first).test.number (shown (out-Arm (out-Choice c).first).then) (behind_arms c left) stop ≡ choice_tree c
+    → fork (out-Arm (out-Choice c).first).test.number (shown_tree (out-Arm (out-Choice c).first).then) (behind_arms c left) stop ≡ choice_tree c
 choice_first c left whole =
     sym (arm_tree_is (out-Choice c).first (behind_arms c left))
-    ∙ ap (λ l. arm_tree (out-Choice c).first (nested (map arm_tree l) (shown (out-Choice c).otherwise))) (take_all left (out-Choice c).later.items whole)
+    ∙ ap (λ l. arm_tree (out-Choice c).first (nested (map arm_tree l) (shown_tree (out-Choice c).otherwise))) (take_all left (out-Choice c).later.items whole)
     ∙ sym (choice_tree_is c)
 
 pub arm_next : (c : Choice) (left k : ℕ) (x : Arm) → left ≡ k + 1 → k < length (out-Choice c).later.items
     → get_or (out-Choice c).later.items k x ≡ x
-    → fork (out-Arm x).test.number (shown (out-Arm x).then) (behind_arms c k) stop ≡ behind_arms c left
+    → fork (out-Arm x).test.number (shown_tree (out-Arm x).then) (behind_arms c k) stop ≡ behind_arms c left
 arm_next c left k x one some is =
     let arms = (out-Choice c).later.items in
-    let otherwise = shown (out-Choice c).otherwise in
+    let otherwise = shown_tree (out-Choice c).otherwise in
     sym (arm_tree_is x (behind_arms c k))
     ∙ sym (ap (λ n. nested (map arm_tree (take n arms)) otherwise) one
     ∙ ap (λ l. nested (map arm_tree l) otherwise) (take_more arms k x some)

@@ -32,9 +32,9 @@ drawn_call c = drawn c.number c.is_refused c.method
 -- ---- of figures: each step is given the statements of the parts
 
 -- the lists one after the other
-abbrev pub joined : List (List Drawn) → List Drawn
-joined [] = []
-joined (l ∷ ls) = l ++ joined ls
+abbrev pub concatenated : List (List Drawn) → List Drawn
+concatenated [] = []
+concatenated (l ∷ ls) = l ++ concatenated ls
 
 -- the lists one after the other, from the last to the first
 abbrev pub joined_back : List (List Drawn) → List Drawn
@@ -59,7 +59,7 @@ choice_step c = c.first ++ (joined_back c.later.items ++ c.otherwise)
 
 -- the drawn statements of a body: those of its figures, one after another
 abbrev pub body_step : Body-F (List Drawn) (List Drawn) (List Drawn) (List Drawn) → List Drawn
-body_step b = joined b.figures.items
+body_step b = concatenated b.figures.items
 
 -- the drawn statements of a method's figures, in order
 abbrev pub body_statements : Body → List Drawn

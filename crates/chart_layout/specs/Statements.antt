@@ -1,7 +1,7 @@
 -- The statements of a method as they stand in a plan's file, and what is drawn for each.
 use Rattle.std.specs.Prelude.{◌≡◌, ℕ, ◌+◌, ◌-◌, ◌^◌, ◌⊎◌, min, nat_eq, Bool, Option, Some, List, [], ◌∷◌, ◌++◌, codes, ⊤}
 use Rattle.std.specs.Option.{option_eq}
-use Rattle.pap_tree.specs.Grammar.{Line, Level, Assignment, Meaning, tree, assignment}
+use Rattle.pap_tree.specs.Grammar.{Line, Level, Assignment, LineMeaning, tree, assignment}
 use Rattle.pap_tree.specs.Spelling.{spelling}
 use Rattle.pap_tree.specs.Stopping.{Cause}
 use Rattle.pap_tree.specs.Expressions.{IsAccepted, IsWrong}
@@ -23,15 +23,15 @@ statements_of (branch text a b rest) =
 statements_of (execute name rest) = execution name ∷ statements_of rest
 
 -- the canonical spelling of what a text stands for
-abbrev pub spelled : Meaning → List ℕ
-spelled (tree term) = spelling term
-spelled (assignment name term) = name ++ (codes " = " ++ spelling term)
-spelled _ = []
+abbrev pub meaning_text : LineMeaning → List ℕ
+meaning_text (tree term) = spelling term
+meaning_text (assignment name term) = name ++ (codes " = " ++ spelling term)
+meaning_text _ = []
 
 -- an expression is drawn in its canonical spelling, and a text that isn't an expression as it is written
 abbrev pub IsSpelledAs : Line → List ℕ → List ℕ → Type 0
 IsSpelledAs line written text =
-    ((x : Meaning) × IsAccepted line written x × (text ≡ spelled x))
+    ((x : LineMeaning) × IsAccepted line written x × (text ≡ meaning_text x))
     ⊎ ((cause : Cause) × (at : ℕ) × IsWrong line written cause at × (text ≡ written))
 
 -- the text is what is drawn for the statement: the expression in its canonical spelling, or the name that an EXECUTE

@@ -71,5 +71,5 @@ abbrev pub body_shows : Body-F Tree (Tree → Tree) Tree Tree → Tree
 body_shows b = stacked b.figures.items
 
 -- the tree that the figures of a body show
-abbrev pub shown : Body → Tree
-shown = fold-Body Tree (Tree → Tree) Tree Tree figure_shows arm_shows choice_shows body_shows
+abbrev pub shown_tree : Body → Tree
+shown_tree = fold-Body Tree (Tree → Tree) Tree Tree figure_shows arm_shows choice_shows body_shows

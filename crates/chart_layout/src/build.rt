@@ -5,9 +5,9 @@ ghost use Rattle.pap_tree.specs.Term.{term_of};
 ghost use Rattle.pap_reader.specs.Trees.{raw_body_of};
 ghost use Rattle.chart_layout.specs.Drawn.{drawn_statement, body_statements};
 ghost use Rattle.chart_layout.specs.private.Drawn.{arm_statements, choice_statements, figures_statements};
-ghost use Rattle.chart_layout.specs.Statements.{expression, execution, statements_of, is_number, spelled, IsSpelledAs, AreDrawn};
+ghost use Rattle.chart_layout.specs.Statements.{expression, execution, statements_of, is_number, meaning_text, IsSpelledAs, AreDrawn};
 ghost use Rattle.chart_layout.specs.private.Statements.{statements_in, after, next_drawn, Adds};
-ghost use Rattle.chart_layout.specs.Trees.{stop, step, fork, above, drawing_of, row_tree, shown};
+ghost use Rattle.chart_layout.specs.Trees.{stop, step, fork, above, drawing_of, row_tree, shown_tree};
 ghost use Rattle.chart_layout.specs.private.Trees.{arm_tree, choice_tree, figures_tree, drawing_in};
 ghost use Rattle.chart_layout.specs.Counts.{count_of};
 
@@ -52,7 +52,7 @@ pub fn read_method<'a>(
         AreDrawn refused 0 (statements_of (raw_body_of statements.now)) (body_statements method.body)) }
     // What it shows is the file's body: the figures of THEN and of ELSE at their ways, and what follows behind both.
     ensures tree { IfOk result (λ method.
-        shown method.body ≡ drawing_of 0 (raw_body_of statements.now)) }
+        shown_tree method.body ≡ drawing_of 0 (raw_body_of statements.now)) }
     ensures count { IfOk result (λ method. method.count
         ≡ count_of (statements_of (raw_body_of statements.now))) }
 {
@@ -372,7 +372,7 @@ fn joined(
     ensures statements { IfOk result (λ choice. choice_statements choice
         ≡ drawn_statement test ∷ (body_statements then ++ figures_statements otherwise.items)) }
     ensures tree { IfOk result (λ choice. choice_tree choice
-        ≡ fork test.number (shown then) (figures_tree otherwise.items) stop) }
+        ≡ fork test.number (shown_tree then) (figures_tree otherwise.items) stop) }
 {
     let first = Arm {
         note: None,
@@ -500,7 +500,8 @@ fn spelled_assignment(alloc: Global, text: &[u8]) -> Result<Vec<u8>, AllocError>
 
 /// An assignment in its canonical spelling.
 fn assignment_text(alloc: Global, target: Name, value: &Expr) -> Result<Vec<u8>, AllocError>
-    ensures { IfOk result (λ text. text.items ≡ spelled (assignment target (term_of value.now))) }
+    ensures { IfOk result
+        (λ text. text.items ≡ meaning_text (assignment target (term_of value.now))) }
 {
     let value = print_expr(alloc, value)?;
     let mut spelled = Vec::from_slice(alloc, target.bytes())?;

@@ -1,7 +1,7 @@
 //! What a body is drawn as.
 ghost use Rattle.std.specs.Prelude.{◌≡◌, ◌↔◌, ◌+◌, ◌<◌, [], IsTrue};
 ghost use Rattle.chart_layout.specs.Drawn.{body_statements, IsBlank};
-ghost use Rattle.chart_layout.specs.Trees.{shown, stop};
+ghost use Rattle.chart_layout.specs.Trees.{shown_tree, stop};
 ghost use Rattle.chart_layout.specs.private.Drawn.{figures_statements};
 ghost use Rattle.chart_layout.specs.private.Trees.{figures_tree};
 ghost use Rattle.chart_layout.specs.private.Leads.{end_behind};
@@ -57,7 +57,7 @@ impl Body {
     /// A body of these figures.
     pub(crate) fn new(figures: Vec<Figure>) -> Body
         ensures statements { body_statements result ≡ figures_statements figures.items }
-        ensures tree { shown result ≡ figures_tree figures.items }
+        ensures tree { shown_tree result ≡ figures_tree figures.items }
     {
         let mut front = Px(0);
         let mut alone = Px(0);
@@ -78,7 +78,7 @@ impl Body {
     pub fn is_empty(&self) -> bool
         ensures blank { IsTrue result ↔ IsBlank self.now }
         ensures statements { IsTrue result → body_statements self.now ≡ [] }
-        ensures tree { IsTrue result → shown self.now ≡ stop }
+        ensures tree { IsTrue result → shown_tree self.now ≡ stop }
     {
         self.figures.is_empty()
     }

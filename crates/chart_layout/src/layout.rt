@@ -6,7 +6,7 @@ ghost use Rattle.chart_layout.specs.declared.drawing.Word.TheVariants.{Yes, No};
 ghost use Rattle.chart_layout.specs.declared.leads.Exit.TheVariants.{Below};
 ghost use Rattle.chart_layout.specs.declared.leads.Entry.TheVariants.{Into};
 ghost use Rattle.chart_layout.specs.Drawn.{drawn_statement, drawn_call, joined_back, drawing_statements, drawing_rows, body_statements};
-ghost use Rattle.chart_layout.specs.Trees.{stop, step, row_tree, shown};
+ghost use Rattle.chart_layout.specs.Trees.{stop, step, row_tree, shown_tree};
 ghost use Rattle.chart_layout.specs.Leads.{at_way, drawing_ways, leads, leaving, lines, method_lines, ways_of, word_ways};
 ghost use Rattle.chart_layout.specs.private.Drawn.{figure_statements, choice_statements, arm_statements};
 ghost use Rattle.chart_layout.specs.private.Trees.{figure_tree, choice_tree};
@@ -42,10 +42,10 @@ pub fn draw<'a>(
         drawing_statements drawing.parts.items ≡ body_statements method.now.body) }
     // Each way of a test has its word.
     ensures ways { IfOk result (λ drawing.
-        drawing_ways drawing.parts.items ≡ ways_of (shown method.now.body)) }
+        drawing_ways drawing.parts.items ≡ ways_of (shown_tree method.now.body)) }
     // From each exit a line leads to the next statement on its way, or to the end.
     ensures leads { IfOk result (λ drawing.
-        drawing.leads.items ≡ method_lines (shown method.now.body)) }
+        drawing.leads.items ≡ method_lines (shown_tree method.now.body)) }
 {
     let mut pen = Pen::new(alloc, passages);
     let height = pen.method(method)?;
@@ -158,9 +158,9 @@ impl<'a> Pen<'a> {
         ensures statements { OnOk result (statements_in (drawing_rows self.new.parts.items)
             ≡ statements_in (drawing_rows self.old.parts.items) ++ body_statements method.now.body) }
         ensures ways { OnOk result (ways_in (drawing_rows self.new.parts.items)
-            ≡ ways_in (drawing_rows self.old.parts.items) ++ ways_of (shown method.now.body)) }
+            ≡ ways_in (drawing_rows self.old.parts.items) ++ ways_of (shown_tree method.now.body)) }
         ensures leads { OnOk result (self.new.leads.items
-            ≡ self.old.leads.items ++ method_lines (shown method.now.body)) }
+            ≡ self.old.leads.items ++ method_lines (shown_tree method.now.body)) }
     {
         let x = MARGIN;
         self.row(Row::Start {
@@ -253,11 +253,11 @@ impl<'a> Pen<'a> {
         ensures statements { OnOk result (statements_in (drawing_rows self.new.parts.items)
             ≡ statements_in (drawing_rows self.old.parts.items) ++ body_statements body.now) }
         ensures ways { OnOk result (ways_in (drawing_rows self.new.parts.items)
-            ≡ ways_in (drawing_rows self.old.parts.items) ++ ways_of (shown body.now)) }
+            ≡ ways_in (drawing_rows self.old.parts.items) ++ ways_of (shown_tree body.now)) }
         ensures leads { OnOk result (self.new.leads.items
-            ≡ self.old.leads.items ++ lines spot.entry.exits.items (shown body.now)) }
+            ≡ self.old.leads.items ++ lines spot.entry.exits.items (shown_tree body.now)) }
         ensures leaves { IfOk result (λ s. Leaves end rail.old.exits.items rail.new.exits.items
-            s.exits.items (leaving spot.entry.exits.items (shown body.now))) }
+            s.exits.items (leaving spot.entry.exits.items (shown_tree body.now))) }
     {
         let mut spot = spot;
         let count = body.figures.len();
@@ -473,11 +473,11 @@ impl<'a> Pen<'a> {
         ensures statements { OnOk result (statements_in (drawing_rows self.new.parts.items)
             ≡ statements_in (drawing_rows self.old.parts.items) ++ body_statements branch.now) }
         ensures ways { OnOk result (ways_in (drawing_rows self.new.parts.items)
-            ≡ ways_in (drawing_rows self.old.parts.items) ++ ways_of (shown branch.now)) }
+            ≡ ways_in (drawing_rows self.old.parts.items) ++ ways_of (shown_tree branch.now)) }
         ensures leads { OnOk result (self.new.leads.items
-            ≡ self.old.leads.items ++ lines (at_way fork.test word ∷ []) (shown branch.now)) }
+            ≡ self.old.leads.items ++ lines (at_way fork.test word ∷ []) (shown_tree branch.now)) }
         ensures leaves { IfOk result (λ s. Leaves end rail.old.exits.items rail.new.exits.items
-            s.exits.items (leaving (at_way fork.test word ∷ []) (shown branch.now))) }
+            s.exits.items (leaving (at_way fork.test word ∷ []) (shown_tree branch.now))) }
     {
         let y = fork.bottom + BRANCH_DROP;
         let way = one(self.alloc, fork.way(word))?;
@@ -498,11 +498,11 @@ impl<'a> Pen<'a> {
         ensures statements { OnOk result (statements_in (drawing_rows self.new.parts.items)
             ≡ statements_in (drawing_rows self.old.parts.items) ++ body_statements branch.now) }
         ensures ways { OnOk result (ways_in (drawing_rows self.new.parts.items)
-            ≡ ways_in (drawing_rows self.old.parts.items) ++ ways_of (shown branch.now)) }
+            ≡ ways_in (drawing_rows self.old.parts.items) ++ ways_of (shown_tree branch.now)) }
         ensures leads { OnOk result (self.new.leads.items
-            ≡ self.old.leads.items ++ lines (at_way fork.test word ∷ []) (shown branch.now)) }
+            ≡ self.old.leads.items ++ lines (at_way fork.test word ∷ []) (shown_tree branch.now)) }
         ensures leaves { IfOk result (λ s. s.exits.items ≡ with_other word
-            (leaving (at_way fork.test word ∷ []) (shown branch.now))
+            (leaving (at_way fork.test word ∷ []) (shown_tree branch.now))
             (at_way fork.test (other_word word) ∷ [])) }
         ensures rail { OnOk result (rail.new.exits.items ≡ rail.old.exits.items) }
     {
@@ -645,13 +645,14 @@ impl<'a> Pen<'a> {
             ++ (arm_statements (out-Choice choice.now).first
             ++ joined_back (map arm_statements (out-Choice choice.now).later.items))) }
         ensures ways { OnOk result (ways_in (drawing_rows self.new.parts.items)
-            ++ ways_of (shown (out-Choice choice.now).otherwise)
+            ++ ways_of (shown_tree (out-Choice choice.now).otherwise)
             ≡ ways_in (drawing_rows self.old.parts.items) ++ ways_of (choice_tree choice.now)) }
         ensures leads { IfOk result (λ s.
-            self.new.leads.items ++ lines s.exits.items (shown (out-Choice choice.now).otherwise)
+            self.new.leads.items
+            ++ lines s.exits.items (shown_tree (out-Choice choice.now).otherwise)
             ≡ self.old.leads.items ++ lines spot.entry.exits.items (choice_tree choice.now)) }
         ensures leaves { IfOk result (λ s. rail.new.exits.items
-            ++ leaving s.exits.items (shown (out-Choice choice.now).otherwise)
+            ++ leaving s.exits.items (shown_tree (out-Choice choice.now).otherwise)
             ≡ rail.old.exits.items ++ leaving spot.entry.exits.items (choice_tree choice.now)) }
     {
         let mut left = choice.later.len();
@@ -686,12 +687,14 @@ impl<'a> Pen<'a> {
             ≡ statements_in (drawing_rows self.old.parts.items) ++ arm_statements arm.now) }
         ensures ways { OnOk result (ways_in (drawing_rows self.new.parts.items)
             ≡ ways_in (drawing_rows self.old.parts.items) ++ (at_way (out-Arm arm.now).test.number Yes ∷ (at_way (out-Arm arm.now).test.number No
-            ∷ ways_of (shown (out-Arm arm.now).then)))) }
+            ∷ ways_of (shown_tree (out-Arm arm.now).then)))) }
         ensures leads { OnOk result (self.new.leads.items
             ≡ self.old.leads.items ++ (leads spot.entry.exits.items (Into (out-Arm arm.now).test.number)
-            ++ lines (at_way (out-Arm arm.now).test.number Yes ∷ []) (shown (out-Arm arm.now).then))) }
+            ++ lines (at_way (out-Arm arm.now).test.number Yes ∷ [])
+            (shown_tree (out-Arm arm.now).then))) }
         ensures leaves { IfOk result (λ s. LeavesArm is_end rail.old.exits.items rail.new.exits.items
-            s.exits.items (leaving (at_way (out-Arm arm.now).test.number Yes ∷ []) (shown (out-Arm arm.now).then))
+            s.exits.items
+            (leaving (at_way (out-Arm arm.now).test.number Yes ∷ []) (shown_tree (out-Arm arm.now).then))
             (at_way (out-Arm arm.now).test.number No ∷ [])) }
     {
         if is_end && arm.then.is_empty() {
@@ -715,11 +718,12 @@ impl<'a> Pen<'a> {
         ensures statements { OnOk result (statements_in (drawing_rows self.new.parts.items)
             ≡ statements_in (drawing_rows self.old.parts.items) ++ body_statements branch.now) }
         ensures ways { OnOk result (ways_in (drawing_rows self.new.parts.items)
-            ≡ ways_in (drawing_rows self.old.parts.items) ++ ways_of (shown branch.now)) }
+            ≡ ways_in (drawing_rows self.old.parts.items) ++ ways_of (shown_tree branch.now)) }
         ensures leads { OnOk result (self.new.leads.items
-            ≡ self.old.leads.items ++ lines (at_way fork.test Yes ∷ []) (shown branch.now)) }
+            ≡ self.old.leads.items ++ lines (at_way fork.test Yes ∷ []) (shown_tree branch.now)) }
         ensures leaves { IfOk result (λ s. LeavesArm is_closing rail.old.exits.items rail.new.exits.items
-            s.exits.items (leaving (at_way fork.test Yes ∷ []) (shown branch.now)) (at_way fork.test No ∷ [])) }
+            s.exits.items (leaving (at_way fork.test Yes ∷ []) (shown_tree branch.now))
+            (at_way fork.test No ∷ [])) }
     {
         let end = self.branch(fork, branch, Word::Yes, End::Rail, rail)?;
         let gap = if branch.is_empty() {

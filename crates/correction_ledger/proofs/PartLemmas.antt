@@ -26,7 +26,7 @@ use Rattle.correction_ledger.specs.declared.due.Entry.{Entry}
 use Rattle.correction_ledger.specs.Filings.{Filings, entry_with}
 use Rattle.correction_ledger.specs.Months.{is_up_to}
 use Rattle.correction_ledger.specs.Open.{first_open, is_open}
-use Rattle.correction_ledger.specs.Owed.{IsOwed, entry_amount, is_for, output_of}
+use Rattle.correction_ledger.specs.Owed.{IsOwed, entry_amount, is_for, output_named}
 use Rattle.correction_ledger.specs.OwedLaws.{DuesAreJoined, FilingsAreJoined}
 use Rattle.correction_ledger.specs.Accounts.{Account, account_cmp, account_of}
 use Rattle.correction_ledger.specs.Parts.{entries_where, filings_where, is_before, is_from, rows_where}
@@ -93,7 +93,7 @@ module _ {K X : Type 0} (cmp : K → K → Ordering) (same : (a b : K) → cmp a
 module _ (test : List ℕ → Bool) (rows : List KeyedRow) (entries : List Entry) (month : Month) where
   -- what is owed on an account with this row and these entries
   abbrev owed_from : Account → Option KeyedRow → List Entry → Option Due
-  owed_from p row es = if is_up_to month p.key.day then owed_between (unwrap_or (option_and_then (output_of p.name) row) zero_amount) (total (map entry_amount es)) p else None
+  owed_from p row es = if is_up_to month p.key.day then owed_between (unwrap_or (option_and_then (output_named p.name) row) zero_amount) (total (map entry_amount es)) p else None
 
   -- on an account of theirs what is owed for all, on another nothing
   owed_where : (p : Account) → owed_at (rows_where test rows) (entries_where test entries) month p ≡ (if test p.key.employee then owed_at rows entries month p else None)

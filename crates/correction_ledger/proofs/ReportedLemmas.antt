@@ -17,13 +17,13 @@ use Rattle.payroll_records.specs.Orders.{key_cmp}
 use Rattle.payroll_records.proofs.Laws.{key_total, key_same}
 use Rattle.carry_bindings.specs.Carrying.{named, zero_amount}
 use Rattle.carry_bindings.specs.Conditions.{AreBounded}
-use Rattle.book_year.specs.Rows.{outputs_in}
+use Rattle.book_year.specs.Rows.{done_outputs}
 use Rattle.recalc_engine.specs.BookLaws.{row_key}
 use Rattle.recalc_engine.specs.MonthRows.{KeyedRow}
 use Rattle.correction_ledger.specs.declared.due.Due.{Due}
 use Rattle.recalc_engine.specs.RowLaws.{AreNamed, HaveNames}
 use Rattle.correction_ledger.specs.Months.{is_up_to}
-use Rattle.correction_ledger.specs.Owed.{output_of, reported}
+use Rattle.correction_ledger.specs.Owed.{output_named, reported}
 use Rattle.correction_ledger.specs.Accounts.{Account, amount_at, due_amount, account_cmp, account_of}
 use Rattle.correction_ledger.specs.private.RowViews.{AreListed, AreReported, due_name, outputs_by, outputs_or_none}
 use Rattle.correction_ledger.proofs.RisingLemmas.{all_append, all_more, at_key_append, rising_append}
@@ -35,10 +35,10 @@ bounded_or_none : (o : Option (List NamedValue)) → AreBounded o →
 bounded_or_none None h = tt
 bounded_or_none (Some vs) h = h
 
-pub outputs_bounded : (month : Month) (row : KeyedRow) → AreBounded (outputs_in row.state) →
+pub outputs_bounded : (month : Month) (row : KeyedRow) → AreBounded (done_outputs row.state) →
     AllByRecursion (λ v. IsWithinBound v.value) (outputs_by month row)
-outputs_bounded month row h = elim (is_up_to month row.key.day) as (λ b. AllByRecursion (λ v. IsWithinBound v.value) (if b then outputs_or_none (outputs_in row.state) else [])) [
-  | true ↦ bounded_or_none (outputs_in row.state) h
+outputs_bounded month row h = elim (is_up_to month row.key.day) as (λ b. AllByRecursion (λ v. IsWithinBound v.value) (if b then outputs_or_none (done_outputs row.state) else [])) [
+  | true ↦ bounded_or_none (done_outputs row.state) h
   | false ↦ tt
 ]
 
@@ -52,10 +52,10 @@ named_or_none : (o : Option (List NamedValue)) → AreNamed o → HaveNames (out
 named_or_none None h = no_names
 named_or_none (Some vs) h = h
 
-pub outputs_named : (month : Month) (row : KeyedRow) → AreNamed (outputs_in row.state) →
+pub outputs_named : (month : Month) (row : KeyedRow) → AreNamed (done_outputs row.state) →
     HaveNames (outputs_by month row)
-outputs_named month row h = elim (is_up_to month row.key.day) as (λ b. HaveNames (if b then outputs_or_none (outputs_in row.state) else [])) [
-  | true ↦ named_or_none (outputs_in row.state) h
+outputs_named month row h = elim (is_up_to month row.key.day) as (λ b. HaveNames (if b then outputs_or_none (done_outputs row.state) else [])) [
+  | true ↦ named_or_none (done_outputs row.state) h
   | false ↦ no_names
 ]
 
@@ -150,12 +150,12 @@ module _ (rows : List KeyedRow) (month : Month) (row : KeyedRow) (dues run : Lis
       let rows_none = rows_below p.key rows (subst (λ x. AllByRecursion (λ r. key_cmp r.key x ≡ Less) rows) key lower) in
       let due : at_key account_cmp account_of (dues ++ run) p ≡ at_key name_cmp due_name run p.name = at_key_append account_cmp account_of dues run p ∙ ap (λ o. option_or o (at_key account_cmp account_of run p)) dues_none ∙ at_of_run row.key run p g.keyed e in
       let found : at_key key_cmp row_key (rows ++ (row ∷ [])) p.key ≡ Some row = at_key_append key_cmp row_key rows (row ∷ []) p.key ∙ ap (λ o. option_or o (at_key key_cmp row_key (row ∷ []) p.key)) rows_none ∙ ap (λ o. if is_eq o then Some row else None) e in
-      let counts : outputs_by month row ≡ outputs_or_none (outputs_in row.state) = ap (λ b. if b then outputs_or_none (outputs_in row.state) else []) (ap (λ (x : Key). is_up_to month x.day) key ∙ t) in
+      let counts : outputs_by month row ≡ outputs_or_none (done_outputs row.state) = ap (λ b. if b then outputs_or_none (done_outputs row.state) else []) (ap (λ (x : Key). is_up_to month x.day) key ∙ t) in
       ap (λ o. option_map_or due_amount o zero_amount) due
       ∙ amount_or_zero (at_key name_cmp due_name run p.name)
       ∙ ap (λ o. unwrap_or o zero_amount) (g.at p.name ∙ ap (named p.name) counts)
-      ∙ value_or_zero p.name (outputs_in row.state)
-      ∙ sym (ap (λ o. unwrap_or (option_and_then (output_of p.name) o) zero_amount) found)
+      ∙ value_or_zero p.name (done_outputs row.state)
+      ∙ sym (ap (λ o. unwrap_or (option_and_then (output_named p.name) o) zero_amount) found)
 
   -- at another account
   other : (p : Account) → IsTrue (is_up_to month p.key.day) → is_eq (key_cmp row.key p.key) ≡ false →
@@ -166,7 +166,7 @@ module _ (rows : List KeyedRow) (month : Month) (row : KeyedRow) (dues run : Lis
       let found : at_key key_cmp row_key (rows ++ (row ∷ [])) p.key ≡ at_key key_cmp row_key rows p.key = at_key_append key_cmp row_key rows (row ∷ []) p.key ∙ ap (λ b. option_or (at_key key_cmp row_key rows p.key) (if b then Some row else None)) e ∙ or_none (at_key key_cmp row_key rows p.key) in
       ap (λ o. option_map_or due_amount o zero_amount) due
       ∙ h.amounts p t
-      ∙ sym (ap (λ o. unwrap_or (option_and_then (output_of p.name) o) zero_amount) found)
+      ∙ sym (ap (λ o. unwrap_or (option_and_then (output_named p.name) o) zero_amount) found)
 
   tied_is : (o : Ordering) → is_eq o ≡ true → o ≡ Equal
   tied_is Less e = cc e
@@ -175,7 +175,7 @@ module _ (rows : List KeyedRow) (month : Month) (row : KeyedRow) (dues run : Lis
 
   run_up_to : (b : Bool) → is_up_to month row.key.day ≡ b → AllByRecursion (λ d. IsTrue (is_up_to month d.key.day)) run
   run_up_to true t = all_more (λ d. d.key ≡ row.key) (λ d. IsTrue (is_up_to month d.key.day)) run (λ d k. ap (λ (x : Key). is_up_to month x.day) k ∙ t) g.keyed
-  run_up_to false t = subst (λ ds. AllByRecursion (λ d. IsTrue (is_up_to month d.key.day)) ds) (sym (g.none (ap (λ b. if b then outputs_or_none (outputs_in row.state) else []) t))) tt
+  run_up_to false t = subst (λ ds. AllByRecursion (λ d. IsTrue (is_up_to month d.key.day)) ds) (sym (g.none (ap (λ b. if b then outputs_or_none (done_outputs row.state) else []) t))) tt
 
   below_more : (k : Key) → AllByRecursion (λ r. key_cmp r.key k ≡ Less) (rows ++ (row ∷ [])) →
       AllByRecursion (λ d. key_cmp d.key k ≡ Less) (dues ++ run)
@@ -183,7 +183,7 @@ module _ (rows : List KeyedRow) (month : Month) (row : KeyedRow) (dues run : Lis
       let parts = all_kept (λ r. key_cmp r.key k ≡ Less) rows row all in
       all_append (λ d. key_cmp d.key k ≡ Less) dues run (h.below k parts.0) (all_more (λ d. d.key ≡ row.key) (λ d. key_cmp d.key k ≡ Less) run (λ d e. ap (λ (x : Key). key_cmp x k) e ∙ parts.1) g.keyed)
 
-  pub reported_more : AreBounded (outputs_in row.state) → AreReported (rows ++ (row ∷ [])) month (dues ++ run)
+  pub reported_more : AreBounded (done_outputs row.state) → AreReported (rows ++ (row ∷ [])) month (dues ++ run)
   reported_more bounded = record {
     rising = rises;
     amounts = λ p t. (elim (is_eq (key_cmp row.key p.key)) as (λ b. is_eq (key_cmp row.key p.key) ≡ b → amount_at (dues ++ run) p ≡ reported (rows ++ (row ∷ [])) p) [
@@ -220,21 +220,21 @@ all_there P [] x ys h = h.0
 all_there P (y ∷ zs) x ys h = all_there P zs x ys h.1
 
 pub underway_more : (rows : List KeyedRow) (month : Month) (row : KeyedRow) (left : List KeyedRow) (dues run : List Due) →
-    IsRising key_cmp row_key rows → AllByRecursion (λ r. AreBounded (outputs_in r.state)) rows →
+    IsRising key_cmp row_key rows → AllByRecursion (λ r. AreBounded (done_outputs r.state)) rows →
     IsUnderway rows month (row ∷ left) dues → AreListed row.key (outputs_by month row) run → IsUnderway rows month left (dues ++ run)
 underway_more rows month row left dues run rise bounded u g = record {
   done = u.done ++ (row ∷ []);
   parts = u.parts ∙ sym (append_assoc u.done (row ∷ []) left);
   reported = reported_more u.done month row dues run u.reported g
       (lower_of u.done row left (subst (IsRising key_cmp row_key) u.parts rise))
-      (all_there (λ r. AreBounded (outputs_in r.state)) u.done row left (subst (AllByRecursion (λ r. AreBounded (outputs_in r.state))) u.parts bounded));
+      (all_there (λ r. AreBounded (done_outputs r.state)) u.done row left (subst (AllByRecursion (λ r. AreBounded (done_outputs r.state))) u.parts bounded));
 }
 
 pub named_there : (rows : List KeyedRow) (month : Month) (row : KeyedRow) (left : List KeyedRow) (dues : List Due) →
-    AllByRecursion (λ r. AreNamed (outputs_in r.state)) rows → IsUnderway rows month (row ∷ left) dues →
+    AllByRecursion (λ r. AreNamed (done_outputs r.state)) rows → IsUnderway rows month (row ∷ left) dues →
     HaveNames (outputs_by month row)
 named_there rows month row left dues named u =
-    outputs_named month row (all_there (λ r. AreNamed (outputs_in r.state)) u.done row left (subst (AllByRecursion (λ r. AreNamed (outputs_in r.state))) u.parts named))
+    outputs_named month row (all_there (λ r. AreNamed (done_outputs r.state)) u.done row left (subst (AllByRecursion (λ r. AreNamed (done_outputs r.state))) u.parts named))
 
 -- at the end all rows are done
 pub underway_done : (rows : List KeyedRow) (month : Month) (left : List KeyedRow) (dues : List Due) → left ≡ [] →

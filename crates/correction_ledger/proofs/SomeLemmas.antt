@@ -16,13 +16,13 @@ use Rattle.payroll_records.specs.declared.values.NamedValue.{NamedValue}
 use Rattle.payroll_records.specs.NamedValues.{name_cmp}
 use Rattle.payroll_records.specs.Orders.{key_cmp}
 use Rattle.carry_bindings.specs.Carrying.{named, total, zero_amount}
-use Rattle.book_year.specs.Rows.{outputs_in}
+use Rattle.book_year.specs.Rows.{done_outputs}
 use Rattle.recalc_engine.specs.BookLaws.{row_key}
 use Rattle.recalc_engine.specs.MonthRows.{KeyedRow}
 use Rattle.correction_ledger.specs.declared.due.Due.{Due}
 use Rattle.correction_ledger.specs.declared.due.Entry.{Entry}
 use Rattle.correction_ledger.specs.Months.{is_up_to}
-use Rattle.correction_ledger.specs.Owed.{IsOwed, entry_amount, filed, is_for, output_of, reported}
+use Rattle.correction_ledger.specs.Owed.{IsOwed, entry_amount, filed, is_for, output_named, reported}
 use Rattle.correction_ledger.specs.OwedLaws.{HasOneOwed}
 use Rattle.correction_ledger.specs.Accounts.{Account, account_cmp, account_of}
 use Rattle.correction_ledger.specs.private.RowViews.{outputs_or_none}
@@ -92,7 +92,7 @@ abbrev output_account : Key → NamedValue → Account
 output_account k v = record { key = k; name = v.name }
 
 abbrev row_accounts : KeyedRow → List Account
-row_accounts row = map (output_account row.key) (outputs_or_none (outputs_in row.state))
+row_accounts row = map (output_account row.key) (outputs_or_none (done_outputs row.state))
 
 abbrev entry_account : Entry → Account
 entry_account e = account_of e.due
@@ -130,14 +130,14 @@ by_outputs None n e = refl
 by_outputs (Some vs) n e = e
 
 none_reported : (rows : List KeyedRow) (p : Account) → among p (flat_map row_accounts rows) ≡ false →
-    option_and_then (output_of p.name) (at_key key_cmp row_key rows p.key) ≡ None
+    option_and_then (output_named p.name) (at_key key_cmp row_key rows p.key) ≡ None
 none_reported [] p h = refl
 none_reported (row ∷ rows) p h =
     let parts = sym (list_any-append (λ q. is_eq (account_cmp q p)) (row_accounts row) (flat_map row_accounts rows)) ∙ h in
     let here = first_not (among p (row_accounts row)) (among p (flat_map row_accounts rows)) parts in
     let more = none_reported rows p (second_not (among p (row_accounts row)) (among p (flat_map row_accounts rows)) parts) in
-    elim (is_eq (key_cmp row.key p.key)) as (λ b. is_eq (key_cmp row.key p.key) ≡ b → option_and_then (output_of p.name) (if b then Some row else at_key key_cmp row_key rows p.key) ≡ None) [
-      | true ↦ λ t. by_outputs (outputs_in row.state) p.name (none_named row.key (outputs_or_none (outputs_in row.state)) p (tied (key_cmp row.key p.key) t) here)
+    elim (is_eq (key_cmp row.key p.key)) as (λ b. is_eq (key_cmp row.key p.key) ≡ b → option_and_then (output_named p.name) (if b then Some row else at_key key_cmp row_key rows p.key) ≡ None) [
+      | true ↦ λ t. by_outputs (done_outputs row.state) p.name (none_named row.key (outputs_or_none (done_outputs row.state)) p (tied (key_cmp row.key p.key) t) here)
       | false ↦ λ t. more
     ] refl
 

@@ -8,7 +8,7 @@ use Rattle.rising_lists.specs.Keyed.{at_key, IsRising}
 use Rattle.payroll_records.specs.declared.month.Month.{Month}
 use Rattle.payroll_records.specs.Orders.{key_cmp}
 use Rattle.carry_bindings.specs.Carrying.{named, total, zero_amount}
-use Rattle.book_year.specs.Rows.{outputs_in}
+use Rattle.book_year.specs.Rows.{done_outputs}
 use Rattle.recalc_engine.specs.BookLaws.{row_key}
 use Rattle.recalc_engine.specs.MonthRows.{KeyedRow}
 use Rattle.correction_ledger.specs.declared.due.Due.{Due}
@@ -17,13 +17,13 @@ use Rattle.correction_ledger.specs.Months.{is_up_to}
 use Rattle.correction_ledger.specs.Accounts.{Account, account_cmp, account_of}
 
 -- the output of a name of a run, where the run is ok and has it
-abbrev pub output_of : List ℕ → KeyedRow → Option Decimal
-output_of name row = option_and_then (named name) (outputs_in row.state)
+abbrev pub output_named : List ℕ → KeyedRow → Option Decimal
+output_named name row = option_and_then (named name) (done_outputs row.state)
 
 -- what a book reports on an account: the output of the run, where that is there, is ok and has it, else 0
 abbrev pub reported : List KeyedRow → Account → Decimal
 reported rows p =
-    unwrap_or (option_and_then (output_of p.name) (at_key key_cmp row_key rows p.key)) zero_amount
+    unwrap_or (option_and_then (output_named p.name) (at_key key_cmp row_key rows p.key)) zero_amount
 
 -- whether an entry is of an account
 abbrev pub is_for : Account → Entry → Bool

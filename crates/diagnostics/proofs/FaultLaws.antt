@@ -8,7 +8,7 @@ use Rattle.pap_tree.specs.Expressions.{IsWrong}
 use Rattle.pap_tree.specs.Grammar.{Line, Level, Assignment, Constant}
 use Rattle.pap_tree.specs.Names.{main_name}
 use Rattle.pap_tree.specs.Stopping.{Cause, syntax, unsupported, binary_fraction, number, deep}
-use Rattle.expr_grammar.specs.Lines.{IsWhole, a_test, an_assignment, a_constant}
+use Rattle.expr_grammar.specs.Lines.{IsWholeLine, a_test, an_assignment, a_constant}
 use Rattle.expr_grammar.proofs.Laws as grammar
 use Rattle.expr_tokens.proofs.Laws.{one_reading}
 use Rattle.pap_expr.specs.declared.fault.ExprFault.{ExprFault}
@@ -24,7 +24,7 @@ use Rattle.pap_reader.proofs.Laws as elements
 use Rattle.plan_text.specs.declared.fault.Spot.{Spot}
 use Rattle.plan_text.specs.declared.fault.Spot.TheVariants.{Statement, Declared}
 use Rattle.plan_text.specs.ExprFaults.{IsExprFault}
-use Rattle.plan_text.specs.Sites.{Site, site, literal_sites, declared_sites, body_sites, routine_sites, sites_of, IsReadable, IsFirstFault}
+use Rattle.plan_text.specs.Sites.{Site, text_site, literal_sites, declared_sites, body_sites, routine_sites, sites_of, IsReadable, IsFirstFault}
 use Rattle.diagnostics.specs.ExpressionFaults.{AreFaultsOf, HaveOneFaultList, FirstFaultIsAnswered}
 
 -- ---- one text
@@ -61,14 +61,14 @@ is_wrong l text (exprs.Number at) h = (h, refl)
 is_wrong l text (exprs.Deep at) h = (h, refl)
 is_wrong l text exprs.Memory h = absurd h
 
-one_fault : (s : Site) → IsWhole s.line → (f g : ExprFault) → IsExprFault s.line s.text f → IsExprFault s.line s.text g → f ≡ g
+one_fault : (s : Site) → IsWholeLine s.line → (f g : ExprFault) → IsExprFault s.line s.text f → IsExprFault s.line s.text g → f ≡ g
 one_fault s w f g h k =
     let a = is_wrong s.line s.text f h in
     let b = is_wrong s.line s.text g k in
     let e = grammar.one_wrong (one_reading 0) s.line w s.text (cause_of f) (cause_of g) (place_of f) (place_of g) a.0 b.0 in
     sym a.1 ∙ ap (λ c. fault_of c (place_of f)) e.0 ∙ ap (fault_of (cause_of g)) e.1 ∙ b.1
 
-not_both : (s : Site) → IsWhole s.line → IsReadable s → (f : ExprFault) → IsExprFault s.line s.text f → ⊥
+not_both : (s : Site) → IsWholeLine s.line → IsReadable s → (f : ExprFault) → IsExprFault s.line s.text f → ⊥
 not_both s w r f k =
     let a = is_wrong s.line s.text f k in
     grammar.accepted_or_wrong (one_reading 0) s.line w s.text r.0 (cause_of f) (place_of f) r.1 a.0
@@ -76,11 +76,11 @@ not_both s w r f k =
 -- ---- all texts of a plan are read by lines that stand alone
 
 abbrev Whole : Site → Type 0
-Whole s = IsWhole s.line
+Whole s = IsWholeLine s.line
 
 value_whole : (name : List ℕ) (kind : Kind) (v : Option (List ℕ)) → All Whole (literal_sites (record { name = name; kind = kind; value = v }))
 value_whole name kind None = All-nil Whole
-value_whole name kind (Some text) = All-cons Whole (site Constant text (Declared name)) [] a_constant (All-nil Whole)
+value_whole name kind (Some text) = All-cons Whole (text_site Constant text (Declared name)) [] a_constant (All-nil Whole)
 
 declared_whole : (ds : List RawDeclaration) → All Whole (declared_sites ds)
 declared_whole [] = All-nil Whole
@@ -88,11 +88,11 @@ declared_whole (d ∷ ds) = All-append Whole (literal_sites d) (declared_sites d
 
 body_whole : (m : List ℕ) (at : ℕ) (b : RawBody) → All Whole (body_sites m at b)
 body_whole m at raw.done = All-nil Whole
-body_whole m at (raw.eval text rest) = All-cons Whole (site Assignment text (Statement m at)) (body_sites m (at + 1) rest) an_assignment (body_whole m (at + 1) rest)
+body_whole m at (raw.eval text rest) = All-cons Whole (text_site Assignment text (Statement m at)) (body_sites m (at + 1) rest) an_assignment (body_whole m (at + 1) rest)
 body_whole m at (raw.branch text a b rest) =
     let n = at + 1 + raw_written a in
     let k = at + 1 + raw_written a + raw_written b in
-    All-cons Whole (site (Level 0) text (Statement m at)) (body_sites m (at + 1) a ++ (body_sites m n b ++ body_sites m k rest)) a_test
+    All-cons Whole (text_site (Level 0) text (Statement m at)) (body_sites m (at + 1) a ++ (body_sites m n b ++ body_sites m k rest)) a_test
     (All-append Whole (body_sites m (at + 1) a) (body_sites m n b ++ body_sites m k rest) (body_whole m (at + 1) a)
     (All-append Whole (body_sites m n b) (body_sites m k rest) (body_whole m n b) (body_whole m k rest)))
 body_whole m at (raw.execute x rest) = body_whole m (at + 1) rest

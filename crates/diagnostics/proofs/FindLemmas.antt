@@ -4,7 +4,7 @@ use Rattle.std.specs.Prelude.{IfOk, IfErr, OnOk}
 use Rattle.std.specs.Result.{result_err}
 use Rattle.std.specs.declared.alloc.AllocError.{AllocError}
 use Rattle.std.proofs.Math.Seq.{drop-cons}
-use Rattle.pap_tree.specs.Grammar.{Line, Level, Assignment, Meaning}
+use Rattle.pap_tree.specs.Grammar.{Line, Level, Assignment, LineMeaning}
 use Rattle.pap_tree.specs.Names.{main_name}
 use Rattle.pap_tree.specs.Expressions.{IsAccepted}
 use Rattle.pap_expr.specs.declared.fault.ExprFault.{ExprFault}
@@ -24,7 +24,7 @@ use Rattle.pap_reader.specs.Trees.{ElementTree, RawBody, done, raw_body_of, raw_
 use Rattle.pap_reader.specs.TreeLimits.{raw_written}
 use Rattle.pap_reader.proofs.Laws.{never_both, one_tree, raw_stmt_then-If}
 use Rattle.plan_text.specs.ExprFaults.{IsExprFault}
-use Rattle.plan_text.specs.Sites.{Site, site, body_sites, declared_sites, literal_sites, routine_sites, sites_of}
+use Rattle.plan_text.specs.Sites.{Site, text_site, body_sites, declared_sites, literal_sites, routine_sites, sites_of}
 use Rattle.plan_text.specs.declared.fault.Spot.{Spot}
 use Rattle.plan_text.specs.declared.fault.Spot.TheVariants.{Statement}
 use Rattle.diagnostics.specs.ExpressionFaults.{AreExpressionFaults, AreFaultsOf}
@@ -49,13 +49,13 @@ finds_both xs ys a b c h k = record {
 
 -- ---- one text
 
-finds_readable : (l : Line) (text : List ℕ) (spot : Spot) (x : Meaning) (before after : List PlanFault)
-    → IsAccepted l text x → after ≡ before → Finds (site l text spot ∷ []) before after
+finds_readable : (l : Line) (text : List ℕ) (spot : Spot) (x : LineMeaning) (before after : List PlanFault)
+    → IsAccepted l text x → after ≡ before → Finds (text_site l text spot ∷ []) before after
 finds_readable l text spot x before after h same =
     record { found = []; are = inl ((x, h), refl); is = same ∙ sym (append-nil before) }
 
 finds_fault : (l : Line) (text : List ℕ) (spot : Spot) (fault : ExprFault) (before after : List PlanFault)
-    → IsExprFault l text fault → after ≡ before ++ texts.Expr spot fault ∷ [] → Finds (site l text spot ∷ []) before after
+    → IsExprFault l text fault → after ≡ before ++ texts.Expr spot fault ∷ [] → Finds (text_site l text spot ∷ []) before after
 finds_fault l text spot fault before after h more = record {
   found = texts.Expr spot fault ∷ [];
   are = inr (fault, [], h, refl, refl);
@@ -63,7 +63,7 @@ finds_fault l text spot fault before after h more = record {
 }
 
 by_fault : (l : Line) (text : List ℕ) (spot : Spot) (fault : ExprFault) (before after : List PlanFault)
-    → IsFaultOf l text fault → Keeps spot (Some fault) before after → Finds (site l text spot ∷ []) before after
+    → IsFaultOf l text fault → Keeps spot (Some fault) before after → Finds (text_site l text spot ∷ []) before after
 by_fault l text spot (exprs.Syntax at) before after h k = finds_fault l text spot (exprs.Syntax at) before after h k
 by_fault l text spot (exprs.Unsupported at) before after h k = finds_fault l text spot (exprs.Unsupported at) before after h k
 by_fault l text spot (exprs.BinaryFraction at) before after h k = finds_fault l text spot (exprs.BinaryFraction at) before after h k
@@ -72,9 +72,9 @@ by_fault l text spot (exprs.Deep at) before after h k = finds_fault l text spot 
 by_fault l text spot exprs.Memory before after h k = absurd k
 
 -- what was read of a text, and its fault that was kept
-pub finds_text : {A : Type 0} (l : Line) (text : List ℕ) (spot : Spot) (r : Result A ExprFault) (found : Option ExprFault) (means : A → Meaning)
+pub finds_text : {A : Type 0} (l : Line) (text : List ℕ) (spot : Spot) (r : Result A ExprFault) (found : Option ExprFault) (means : A → LineMeaning)
     (before after : List PlanFault) → IfOk r (λ a. IsAccepted l text (means a)) → IfErr r (IsFaultOf l text)
-    → found ≡ result_err r → Keeps spot found before after → Finds (site l text spot ∷ []) before after
+    → found ≡ result_err r → Keeps spot found before after → Finds (text_site l text spot ∷ []) before after
 finds_text l text spot (Ok a) found means before after read wrong is k =
     finds_readable l text spot (means a) before after read (subst (λ o. Keeps spot o before after) is k)
 finds_text l text spot (Err fault) found means before after read wrong is k =
@@ -173,13 +173,13 @@ pub body_ends : (m : List ℕ) (at next : ℕ) (all left : RawBody) (before now 
 body_ends m at next all left before now none h = ends (body_sites m at all) (body_sites m next left) before now (ap (body_sites m next) none) h.finds
 
 pub eval_found : (m : List ℕ) (at next : ℕ) (raw : RawStmt) (exec : Vec ℕ Global) (text : List ℕ) (before after : List PlanFault)
-    → raw ≡ raws.Eval exec → text ≡ exec.items → next ≡ at + 1 → Finds (site Assignment text (Statement m at) ∷ []) before after
+    → raw ≡ raws.Eval exec → text ≡ exec.items → next ≡ at + 1 → Finds (text_site Assignment text (Statement m at) ∷ []) before after
     → FindsStatement m at next raw before after
 eval_found m at next raw exec text before after is et en f =
     subst (λ r. FindsStatement m at next r before after) (sym is) (record {
-      own = site Assignment exec.items (Statement m at) ∷ [];
-      finds = subst (λ t. Finds (site Assignment t (Statement m at) ∷ []) before after) et f;
-      sites = λ rest. ap (λ n. site Assignment exec.items (Statement m at) ∷ body_sites m n rest) (sym en);
+      own = text_site Assignment exec.items (Statement m at) ∷ [];
+      finds = subst (λ t. Finds (text_site Assignment t (Statement m at) ∷ []) before after) et f;
+      sites = λ rest. ap (λ n. text_site Assignment exec.items (Statement m at) ∷ body_sites m n rest) (sym en);
       counted = λ rest. omega (arith, en);
     })
 
@@ -194,11 +194,11 @@ execute_found m at next raw name before after is en same =
     })
 
 branch_exact : (m : List ℕ) (at : ℕ) (text : Vec ℕ Global) (ys zs : Vec RawStmt Global) (one two three four : List PlanFault)
-    → Finds (site (Level 0) text.items (Statement m at) ∷ []) one two → Finds (body_sites m (at + 1) (raw_body_of ys.items)) two three
+    → Finds (text_site (Level 0) text.items (Statement m at) ∷ []) one two → Finds (body_sites m (at + 1) (raw_body_of ys.items)) two three
     → Finds (body_sites m (at + 1 + raw_written (raw_body_of ys.items)) (raw_body_of zs.items)) three four
     → FindsStatement m at (at + 1 + raw_written (raw_body_of ys.items) + raw_written (raw_body_of zs.items)) (raws.If text ys zs) one four
 branch_exact m at text ys zs one two three four test first second =
-    let own = site (Level 0) text.items (Statement m at) in
+    let own = text_site (Level 0) text.items (Statement m at) in
     let u = raw_written (raw_body_of ys.items) in
     let v = raw_written (raw_body_of zs.items) in
     let in_first = body_sites m (at + 1) (raw_body_of ys.items) in
@@ -214,14 +214,14 @@ branch_exact m at text ys zs one two three four test first second =
 pub branch_found : (m : List ℕ) (at mid next : ℕ) (raw : RawStmt) (text : Vec ℕ Global) (ys zs : Vec RawStmt Global) (t : List ℕ) (a b : List RawStmt)
     (one two three four : List PlanFault) → raw ≡ raws.If text ys zs → t ≡ text.items → a ≡ ys.items → b ≡ zs.items
     → mid ≡ at + 1 + raw_written (raw_body_of a) → next ≡ mid + raw_written (raw_body_of b)
-    → Finds (site (Level 0) t (Statement m at) ∷ []) one two → Finds (body_sites m (at + 1) (raw_body_of a)) two three
+    → Finds (text_site (Level 0) t (Statement m at) ∷ []) one two → Finds (body_sites m (at + 1) (raw_body_of a)) two three
     → Finds (body_sites m mid (raw_body_of b)) three four → FindsStatement m at next raw one four
 branch_found m at mid next raw text ys zs t a b one two three four is et ea eb em en test first second =
     let e = em ∙ ap (λ l. at + 1 + raw_written (raw_body_of l)) ea in
     let k = en ∙ ap (λ n. n + raw_written (raw_body_of b)) e ∙ ap (λ l. at + 1 + raw_written (raw_body_of ys.items) + raw_written (raw_body_of l)) eb in
     subst (λ r. FindsStatement m at next r one four) (sym is)
     (subst (λ n. FindsStatement m at n (raws.If text ys zs) one four) (sym k)
-    (branch_exact m at text ys zs one two three four (subst (λ x. Finds (site (Level 0) x (Statement m at) ∷ []) one two) et test)
+    (branch_exact m at text ys zs one two three four (subst (λ x. Finds (text_site (Level 0) x (Statement m at) ∷ []) one two) et test)
     (subst (λ l. Finds (body_sites m (at + 1) (raw_body_of l)) two three) ea first)
     (subst (λ n. Finds (body_sites m n (raw_body_of zs.items)) three four) e (subst (λ l. Finds (body_sites m mid (raw_body_of l)) three four) eb second))))
 
@@ -229,7 +229,7 @@ branch_found m at mid next raw text ys zs t a b one two three four is et ea eb e
 pub branch_ends : (m : List ℕ) (at mid : ℕ) (raw : RawStmt) (text : Vec ℕ Global) (ys zs : Vec RawStmt Global) (t : List ℕ) (a b : List RawStmt)
     (one two three four : List PlanFault) (r : Result ℕ AllocError) → raw ≡ raws.If text ys zs → t ≡ text.items → a ≡ ys.items → b ≡ zs.items
     → mid ≡ at + 1 + raw_written (raw_body_of a)
-    → Finds (site (Level 0) t (Statement m at) ∷ []) one two → Finds (body_sites m (at + 1) (raw_body_of a)) two three
+    → Finds (text_site (Level 0) t (Statement m at) ∷ []) one two → Finds (body_sites m (at + 1) (raw_body_of a)) two three
     → OnOk r (Finds (body_sites m mid (raw_body_of b)) three four) → IfOk r (λ next. next ≡ mid + raw_written (raw_body_of b))
     → IfOk r (λ next. FindsStatement m at next raw one four)
 branch_ends m at mid raw text ys zs t a b one two three four (Ok next) is et ea eb em test first second en =

@@ -3,7 +3,7 @@ ghost use Rattle.std.specs.Prelude.{◌≡◌, ◌∷◌, ◌+◌, ◌<◌, ◌^
 ghost use Rattle.pap_tree.specs.Grammar.{Assignment, Constant, Level};
 ghost use Rattle.pap_reader.specs.Trees.{done, raw_body_of, raw_declaration_of, raw_routine_of, raw_stmt_then, tree_of};
 ghost use Rattle.pap_reader.specs.TreeLimits.{IsSmallTree, methods_written, raw_written};
-ghost use Rattle.plan_text.specs.Sites.{body_sites, declared_sites, literal_sites, routine_sites, site, sites_of};
+ghost use Rattle.plan_text.specs.Sites.{body_sites, declared_sites, literal_sites, routine_sites, text_site, sites_of};
 ghost use Rattle.diagnostics.specs.ExpressionFaults.{AreExpressionFaults, AreFaultsOf, FirstFaultIsAnswered, HaveOneFaultList};
 ghost use Rattle.diagnostics.specs.private.FaultViews.{Finds, FindsStatement, Keeps};
 
@@ -125,7 +125,7 @@ impl FaultFinder {
 
     /// Looks at the text of a literal.
     fn try_constant(&mut self, spot: Spot, text: &[u8]) -> Result<(), AllocError>
-        ensures { OnOk result (Finds (site Constant text.now spot ∷ [])
+        ensures { OnOk result (Finds (text_site Constant text.now spot ∷ [])
             self.old.faults.items self.new.faults.items) }
     {
         let found = parse_constant(self.alloc, text).err();
@@ -134,7 +134,7 @@ impl FaultFinder {
 
     /// Looks at the text of a test.
     fn try_test(&mut self, spot: Spot, text: &[u8]) -> Result<(), AllocError>
-        ensures { OnOk result (Finds (site (Level 0) text.now spot ∷ [])
+        ensures { OnOk result (Finds (text_site (Level 0) text.now spot ∷ [])
             self.old.faults.items self.new.faults.items) }
     {
         let found = parse_expr(self.alloc, text).err();
@@ -143,7 +143,7 @@ impl FaultFinder {
 
     /// Looks at the text of an assignment.
     fn try_assignment(&mut self, spot: Spot, text: &[u8]) -> Result<(), AllocError>
-        ensures { OnOk result (Finds (site Assignment text.now spot ∷ [])
+        ensures { OnOk result (Finds (text_site Assignment text.now spot ∷ [])
             self.old.faults.items self.new.faults.items) }
     {
         let found = parse_assign(self.alloc, text).err();

@@ -5,7 +5,7 @@ use Rattle.pap_tree.specs.Term.{Term}
 use Rattle.pap_tree.specs.Tokens as tokens
 use Rattle.pap_tree.specs.Tokens.{Sign, Token, Literal, Word, Operator, Mark}
 use Rattle.pap_tree.specs.Grammar.{Guard, free, no_number, no_point, Level, tree}
-use Rattle.pap_tree.specs.Texts.{Text, begins_number, begins_point, forbids}
+use Rattle.pap_tree.specs.Texts.{Derives, begins_number, begins_point, forbids}
 use Rattle.expr_grammar.specs.Machine.{Frame, InNew, Negating, State, Want, Have, finish}
 use Rattle.expr_grammar.proofs.Holes.{clashes}
 use Rattle.expr_grammar.proofs.Handles as handles
@@ -21,7 +21,7 @@ no_tree : (s : State) (x : Term) → finish s ≡ None → finish s ≡ finish (
 no_tree s x e f = let g : None ≡ Some (tree x) = sym e ∙ f in cc
 
 -- what the machine finds is enough: after no token, or after a -, the line isn't whole
-pub begins : (n : ℕ) (a : List Token) (x : Term) → Text (Level n) a (tree x) → Begins a
+pub begins : (n : ℕ) (a : List Token) (x : Term) → Derives (Level n) a (tree x) → Begins a
 begins n [] x h =
     let g = goes h (Want []) (handles.expression n [] (omega arith)) refl in
     no_tree (Want []) x refl (ap finish (some_is (Want []) g.to g.run) ∙ g.same.end)

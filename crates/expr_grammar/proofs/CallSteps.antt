@@ -16,13 +16,13 @@ use Rattle.pap_tree.specs.Words.{call_word}
 use Rattle.pap_tree.specs.Tokens as tokens
 use Rattle.pap_tree.specs.Tokens.{Token, Literal, Word, Mark, Dot, Comma, Open, Close, int}
 use Rattle.pap_tree.specs.Grammar as grammar
-use Rattle.pap_tree.specs.Grammar.{Item, free, Line, Level, Rounding, Meaning, tree, mode, at, sign, word, opens, rounding}
+use Rattle.pap_tree.specs.Grammar.{Item, free, Line, Level, Rounding, LineMeaning, tree, mode, at, sign, word, opens, rounding}
 use Rattle.pap_tree.specs.Texts as texts
-use Rattle.pap_tree.specs.Texts.{Text}
+use Rattle.pap_tree.specs.Texts.{Derives}
 use Rattle.pap_tree.specs.Fronts as fronts
 use Rattle.pap_tree.specs.Fronts.{Front}
 use Rattle.expr_grammar.specs.Machine as machine
-use Rattle.expr_grammar.specs.Machine.{Frame, InCall, InValue, Assigning, Rounded, setting, Job, valuing, declaring, Holder, the_decimal, the_mode, holder_word, holder_of, held_word, mode_of, Method, applied, opposite, magnitude, rescaled, method_word, method_of, Constancy, constant, of_number, constancy_word, constancy_of, State, Want, Have, Due, Member, Static, ScaleDue, Parting, Moding, Moded, Naming, level, called, scaled, class_held, moded, rounded, same_token, step}
+use Rattle.expr_grammar.specs.Machine.{Frame, InCall, InValue, Assigning, Rounded, setting, ScaleUse, valuing, declaring, Holder, the_decimal, the_mode, holder_word, holder_of, held_word, mode_of, Method, applied, opposite, magnitude, rescaled, method_word, method_of, Constancy, constant, of_number, constancy_word, constancy_of, State, Want, Have, Due, Member, Static, ScaleDue, Parting, Moding, Moded, Naming, level, called, scaled, class_held, moded, rounded, same_token, step}
 use Rattle.expr_grammar.proofs.Words.{picked, mapped, if_some, token_is}
 use Rattle.expr_grammar.proofs.Pending.{Pending, Plugs, pass_is, pass_opens, pass_scale, pass_part, finished, front_here, front_inside, further}
 use Rattle.expr_grammar.proofs.Levels.{some_term}
@@ -44,7 +44,7 @@ method_read : (line : Line) (k : List Frame) (x z : Term) (w : List ℕ) (more :
     → Spelled line (Member x k) a → Pending (λ p. Stack line k p) k (Level 8) more 0 (tree z) (a ++ (Word w ∷ []))
 method_read line k x z w more a way (p, r, e) = pass_is (λ p. Stack line k p) k (Level 8) (Word w) more 0 (tree z) a (dotted line k x z (word w ∷ more) p a way r e)
 
-open_due : (line : Line) (k : List Frame) (l : Line) (more : List Item) (z : Meaning) (s : State) (a : List Token)
+open_due : (line : Line) (k : List Frame) (l : Line) (more : List Item) (z : LineMeaning) (s : State) (a : List Token)
     → Plugs (λ p. Stack line k p) k l line (level k)
     → Pending (λ p. Stack line k p) k l (opens Open ∷ more) 0 z a → Spelled line s (a ++ (Mark Open ∷ [])) → Spelled line (Due (level k) (Mark Open) s) a
 open_due line k l more z s a plug p h = (at_level line a (0 + level k) (level k) _ (omega arith) (front_here (λ p. Stack line k p) k l line (level k) _ more 0 z a plug refl p), h, tt)
@@ -112,7 +112,7 @@ static_steps line k t r a h e = absurd cc
 
 -- ---- scales
 
-scaled_read : (line : Line) (j : Job) (s : ℕ) (a : List Token) → s ≤ most_places → Spelled line (ScaleDue j) a → Spelled line (scaled j s) (a ++ (Literal (int s) ∷ []))
+scaled_read : (line : Line) (j : ScaleUse) (s : ℕ) (a : List Token) → s ≤ most_places → Spelled line (ScaleDue j) a → Spelled line (scaled j s) (a ++ (Literal (int s) ∷ []))
 scaled_read line (valuing x k) s a le h = close_due line k 9 (one (value_of_scaled s) x) _ (omega arith) (pass_scale (λ p. Stack line k p) k (Level 9) grammar.of_value s _ 1 _ a (h s le))
 scaled_read line (machine.rounding r k) s a le h = (
   λ m. pass_scale (λ p. Stack line k p) k (Level 8) (scaling_of r) s _ 1 _ a (h s m le),
@@ -120,7 +120,7 @@ scaled_read line (machine.rounding r k) s a le h = (
 )
 scaled_read line (declaring i r) s a le h = big_close_due line r (decimal i s) _ (pass_scale _ [] grammar.Big grammar.of_value s _ 1 _ a (h s le))
 
-pub scale_steps : (line : Line) (j : Job) (t : Token) (r : State) (a : List Token) → Spelled line (ScaleDue j) a → step (ScaleDue j) t ≡ Some r → Spelled line r (a ++ (t ∷ []))
+pub scale_steps : (line : Line) (j : ScaleUse) (t : Token) (r : State) (a : List Token) → Spelled line (ScaleDue j) a → step (ScaleDue j) t ≡ Some r → Spelled line r (a ++ (t ∷ []))
 scale_steps line j (Literal (int s)) r a h e =
     let (c, f) = if_some (nat_le s most_places) (scaled j s) r e in
     subst (λ r. Spelled line r (a ++ (Literal (int s) ∷ []))) f (scaled_read line j s a (leb-true s most_places c) h)
@@ -153,7 +153,7 @@ mode_steps line q s k (Word w) r a h e =
     (subst (λ r. Spelled line r (a ++ (Word (holder_word c) ∷ []))) g (held_read line q s k c a h))
 mode_steps line q s k t r a h e = absurd cc
 
-mode_text : (h : Holder) (m : Mode) → Text Rounding (Word (holder_word h) ∷ Mark Dot ∷ Word (held_word h m) ∷ []) (mode m)
+mode_text : (h : Holder) (m : Mode) → Derives Rounding (Word (holder_word h) ∷ Mark Dot ∷ Word (held_word h m) ∷ []) (mode m)
 mode_text the_decimal m = texts.by _ (grammar.old_mode m) (texts.is (texts.is (texts.is texts.done)))
 mode_text the_mode m = texts.by _ (grammar.new_mode m) (texts.is (texts.is (texts.is texts.done)))
 

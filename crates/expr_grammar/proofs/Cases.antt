@@ -11,7 +11,7 @@ use Rattle.pap_tree.specs.Tokens as tokens
 use Rattle.pap_tree.specs.Tokens.{Token, Literal, Quoted, Word, Operator, Mark, Equals, Bang, Question, Colon, Dot, Comma, Semicolon, Open, Close, OpenItem, CloseItem, OpenTable, CloseTable, Spot}
 use Rattle.pap_tree.specs.Grammar.{Level, Assignment, Constant, tree, assignment, declared}
 use Rattle.pap_tree.specs.Stopping as stopping
-use Rattle.expr_grammar.specs.Run.{answer, refusal}
+use Rattle.expr_grammar.specs.Run.{answer, refusal_at}
 
 -- each token at its number
 abbrev spots_from : ℕ → List Token → List Spot
@@ -50,30 +50,30 @@ declared_table = refl
 
 -- A = B . pow ( .. : the pow isn't supported
 pow : answer Assignment 99 (spots_from 0 (name (codes "A") ∷ Mark Equals ∷ name (codes "B") ∷ Mark Dot ∷ name (codes "pow") ∷ Mark Open ∷ []))
-    ≡ Err (refusal stopping.unsupported 4)
+    ≡ Err (refusal_at stopping.unsupported 4)
 pow = refl
 
 -- new BigDecimal ( - 0.4
 fraction : answer (Level 0) 99 (spots_from 0 (Word (codes "new") ∷ Word (codes "BigDecimal") ∷ Mark Open ∷ Operator binaries.Sub ∷ Literal (tokens.point (decimal (pos 4) 1)) ∷ []))
-    ≡ Err (refusal stopping.binary_fraction 4)
+    ≡ Err (refusal_at stopping.binary_fraction 4)
 fraction = refl
 
 -- x . setScale ( 31 and x . setScale ( 3 )
-great_scale : answer (Level 0) 99 (spots_from 0 (name (codes "x") ∷ Mark Dot ∷ Word (codes "setScale") ∷ Mark Open ∷ int 31 ∷ [])) ≡ Err (refusal stopping.number 4)
+great_scale : answer (Level 0) 99 (spots_from 0 (name (codes "x") ∷ Mark Dot ∷ Word (codes "setScale") ∷ Mark Open ∷ int 31 ∷ [])) ≡ Err (refusal_at stopping.number 4)
 great_scale = refl
 
-no_mode : answer (Level 0) 99 (spots_from 0 (name (codes "x") ∷ Mark Dot ∷ Word (codes "setScale") ∷ Mark Open ∷ int 3 ∷ Mark Close ∷ [])) ≡ Err (refusal stopping.unsupported 5)
+no_mode : answer (Level 0) 99 (spots_from 0 (name (codes "x") ∷ Mark Dot ∷ Word (codes "setScale") ∷ Mark Open ∷ int 3 ∷ Mark Close ∷ [])) ≡ Err (refusal_at stopping.unsupported 5)
 no_mode = refl
 
 -- the end of the text
-early : answer (Level 0) 99 (spots_from 0 (int 3 ∷ Operator binaries.Plus ∷ [])) ≡ Err (refusal stopping.syntax 99)
+early : answer (Level 0) 99 (spots_from 0 (int 3 ∷ Operator binaries.Plus ∷ [])) ≡ Err (refusal_at stopping.syntax 99)
 early = refl
 
 -- 64 brackets and one more
-deep : answer (Level 0) 99 (spots_from 0 (replicate 65 (Mark Open))) ≡ Err (refusal stopping.deep 64)
+deep : answer (Level 0) 99 (spots_from 0 (replicate 65 (Mark Open))) ≡ Err (refusal_at stopping.deep 64)
 deep = refl
 
-flat : answer (Level 0) 99 (spots_from 0 (replicate 64 (Mark Open))) ≡ Err (refusal stopping.syntax 99)
+flat : answer (Level 0) 99 (spots_from 0 (replicate 64 (Mark Open))) ≡ Err (refusal_at stopping.syntax 99)
 flat = refl
 
 -- ! a && b == 1 || c is ((!a) && (b == 1)) || c

@@ -10,9 +10,9 @@ use Rattle.pap_tree.specs.Tokens.{Token, Literal, Beyond, Word, Operator, Mark, 
 use Rattle.pap_tree.specs.Grammar as grammar
 use Rattle.pap_tree.specs.Grammar.{Line, of_quotient, of_setting}
 use Rattle.pap_tree.specs.Stopping as stopping
-use Rattle.pap_tree.specs.Stopping.{IsDeep, WantsScale, IsGreat, IsFraction, IsForeign, new_big_decimal, Cause, syntax, unsupported, binary_fraction, number, deep, rank, Earns, HasCause}
-use Rattle.expr_grammar.specs.Lines.{IsWhole}
-use Rattle.expr_grammar.specs.Machine.{InNew, Negating, dividing, setting, rounding, OfNew, Holder, the_decimal, the_mode, holder_word, holder_of, State, Want, Member, Static, ScaleDue, Parting, Moded, Signed, Minus, Settling, level_of_job, scaled, step, steps, start}
+use Rattle.pap_tree.specs.Stopping.{IsDeep, WantsScale, IsGreat, IsFraction, IsForeign, new_big_decimal, Cause, syntax, unsupported, binary_fraction, number, deep, rank, Earns, HasStopCause}
+use Rattle.expr_grammar.specs.Lines.{IsWholeLine}
+use Rattle.expr_grammar.specs.Machine.{InNew, Negating, dividing, setting, rounding, OfNew, Holder, the_decimal, the_mode, holder_word, holder_of, State, Want, Member, Static, ScaleDue, Parting, Moded, Signed, Minus, Settling, level_of_job, scaled, step, steps, first_state}
 use Rattle.expr_grammar.specs.Run.{int_cause, point_cause, class_cause, word_cause, close_cause, cause_of}
 use Rattle.expr_grammar.proofs.Handles.{wants}
 use Rattle.expr_grammar.proofs.Words.{picked}
@@ -30,7 +30,7 @@ low c = omega arith
 
 -- no greater cause is earned
 none_greater : (line : Line) (a : List Token) (t : Token) (c : Cause) → (IsDeep line a t → ⊥) → Earns line a t c
-    → (rank c < rank number → IsGreat line a t → ⊥) → (rank c < rank binary_fraction → IsFraction a t → ⊥) → (rank c < rank unsupported → IsForeign line a t → ⊥) → HasCause line a t c
+    → (rank c < rank number → IsGreat line a t → ⊥) → (rank c < rank binary_fraction → IsFraction a t → ⊥) → (rank c < rank unsupported → IsForeign line a t → ⊥) → HasStopCause line a t c
 none_greater line a t c no_deep earned no_great no_fraction no_foreign = record { earned = earned; first = first }
   where
     first : (d : Cause) → rank c < rank d → Earns line a t d → ⊥
@@ -40,10 +40,10 @@ none_greater line a t c no_deep earned no_great no_fraction no_foreign = record 
     first unsupported lt h = no_foreign lt h
     first syntax lt h = let g = low c in absurd (omega (arith, lt, g))
 
-great_right : (line : Line) (a : List Token) (t : Token) → (IsDeep line a t → ⊥) → IsGreat line a t → HasCause line a t number
+great_right : (line : Line) (a : List Token) (t : Token) → (IsDeep line a t → ⊥) → IsGreat line a t → HasStopCause line a t number
 great_right line a t no_deep h = none_greater line a t number no_deep h (λ lt g. absurd (omega (arith, lt))) (λ lt g. absurd (omega (arith, lt))) (λ lt g. absurd (omega (arith, lt)))
 
-syntax_right : (line : Line) (a : List Token) (t : Token) → (IsDeep line a t → ⊥) → (IsGreat line a t → ⊥) → (IsFraction a t → ⊥) → (IsForeign line a t → ⊥) → HasCause line a t syntax
+syntax_right : (line : Line) (a : List Token) (t : Token) → (IsDeep line a t → ⊥) → (IsGreat line a t → ⊥) → (IsFraction a t → ⊥) → (IsForeign line a t → ⊥) → HasStopCause line a t syntax
 syntax_right line a t no_deep no_great no_fraction no_foreign = none_greater line a t syntax no_deep tt (λ lt h. no_great h) (λ lt h. no_fraction h) (λ lt h. no_foreign h)
 
 -- ---- ints
@@ -55,8 +55,8 @@ past_most : (n : ℕ) (c : Bool) (s : State) → nat_le n most_places ≡ c → 
 past_most n true s e f = absurd cc
 past_most n false s e f = leb-false n most_places e
 
-int_right : (line : Line) → IsWhole line → (s : State) (n : ℕ) (a : List Token) → steps (start line) a ≡ Some s → step s (Literal (int n)) ≡ None → (IsDeep line a (Literal (int n)) → ⊥)
-    → HasCause line a (Literal (int n)) (int_cause s)
+int_right : (line : Line) → IsWholeLine line → (s : State) (n : ℕ) (a : List Token) → steps (first_state line) a ≡ Some s → step s (Literal (int n)) ≡ None → (IsDeep line a (Literal (int n)) → ⊥)
+    → HasStopCause line a (Literal (int n)) (int_cause s)
 int_right line w (ScaleDue j) n a e f no_deep =
     great_right line a (Literal (int n)) no_deep
     (stopping.great_scale n (place_of j) (past_most n (nat_le n most_places) (scaled j n) refl f) (level_of_job j, 0, scale_front line j a (spelled line w a (ScaleDue j) e)))
@@ -65,14 +65,14 @@ int_right line w s n a e f no_deep =
 
 -- ---- literals with a point
 
-fraction_right : (line : Line) (a : List Token) (d : Decimal) → (IsDeep line a (Literal (point d)) → ⊥) → IsFraction a (Literal (point d)) → HasCause line a (Literal (point d)) binary_fraction
+fraction_right : (line : Line) (a : List Token) (d : Decimal) → (IsDeep line a (Literal (point d)) → ⊥) → IsFraction a (Literal (point d)) → HasStopCause line a (Literal (point d)) binary_fraction
 fraction_right line a d no_deep h =
     none_greater line a (Literal (point d)) binary_fraction no_deep h (λ lt g. elim g [ ]) (λ lt g. absurd (omega (arith, lt))) (λ lt g. absurd (omega (arith, lt)))
 
 signed_is : (a p q : List Token) → a ≡ p ++ (Operator binaries.Sub ∷ []) → p ≡ q ++ new_big_decimal → a ≡ q ++ (new_big_decimal ++ (Operator binaries.Sub ∷ []))
 signed_is a p q e f = e ∙ further p q new_big_decimal (Operator binaries.Sub ∷ []) f
 
-point_right : (line : Line) → IsWhole line → (s : State) (d : Decimal) (a : List Token) → steps (start line) a ≡ Some s → (IsDeep line a (Literal (point d)) → ⊥) → HasCause line a (Literal (point d)) (point_cause s)
+point_right : (line : Line) → IsWholeLine line → (s : State) (d : Decimal) (a : List Token) → steps (first_state line) a ≡ Some s → (IsDeep line a (Literal (point d)) → ⊥) → HasStopCause line a (Literal (point d)) (point_cause s)
 point_right line w (Want (InNew ∷ k)) d a e no_deep =
     let h = spelled line w a (Want (InNew ∷ k)) e in
     fraction_right line a d no_deep (stopping.plain_fraction h.2.0 d h.2.1)
@@ -101,12 +101,12 @@ foreign_word line a v (stopping.a_member b u e h) = inl (b, e, h)
 foreign_word line a v (stopping.an_old_mode h) = inr (h, (the_decimal, refl))
 foreign_word line a v (stopping.a_new_mode h) = inr (h, (the_mode, refl))
 
-foreign_right : (line : Line) (a : List Token) (v : List ℕ) → (IsDeep line a (Word v) → ⊥) → IsForeign line a (Word v) → HasCause line a (Word v) unsupported
+foreign_right : (line : Line) (a : List Token) (v : List ℕ) → (IsDeep line a (Word v) → ⊥) → IsForeign line a (Word v) → HasStopCause line a (Word v) unsupported
 foreign_right line a v no_deep h =
     none_greater line a (Word v) unsupported no_deep h (λ lt g. elim g [ ]) (λ lt g. elim g [ ]) (λ lt g. absurd (omega (arith, lt)))
 
-by_name : (line : Line) → IsWhole line → (s : State) (v : List ℕ) (a b : List Token) (c : Bool) → is_name v ≡ c → steps (start line) a ≡ Some s → wants s ≡ None → a ≡ b ++ (Mark Dot ∷ [])
-    → (IsDeep line a (Word v) → ⊥) → HasCause line a (Word v) (cond c unsupported syntax)
+by_name : (line : Line) → IsWholeLine line → (s : State) (v : List ℕ) (a b : List Token) (c : Bool) → is_name v ≡ c → steps (first_state line) a ≡ Some s → wants s ≡ None → a ≡ b ++ (Mark Dot ∷ [])
+    → (IsDeep line a (Word v) → ⊥) → HasStopCause line a (Word v) (cond c unsupported syntax)
 by_name line w s v a b true g e f h no_deep = foreign_right line a v no_deep (stopping.a_member b v h g)
 by_name line w s v a b false g e f h no_deep =
     syntax_right line a (Word v) no_deep (λ h. elim h [ ]) (λ h. elim h [ ]) (λ h. elim (foreign_word line a v h) as (λ z. ⊥) [
@@ -118,8 +118,8 @@ mode_earns : (line : Line) (a : List Token) (h : Holder) → WantsScale line a o
 mode_earns line a the_decimal g = stopping.an_old_mode g
 mode_earns line a the_mode g = stopping.a_new_mode g
 
-by_class : (line : Line) → IsWhole line → (s : State) (v : List ℕ) (a : List Token) (o : Option Holder) → holder_of v ≡ o → steps (start line) a ≡ Some s → awaits s ≡ false → WantsScale line a of_quotient
-    → (IsDeep line a (Word v) → ⊥) → HasCause line a (Word v) (class_cause o)
+by_class : (line : Line) → IsWholeLine line → (s : State) (v : List ℕ) (a : List Token) (o : Option Holder) → holder_of v ≡ o → steps (first_state line) a ≡ Some s → awaits s ≡ false → WantsScale line a of_quotient
+    → (IsDeep line a (Word v) → ⊥) → HasStopCause line a (Word v) (class_cause o)
 by_class line w s v a (Some h) g e f want no_deep =
     foreign_right line a v no_deep (subst (λ v. IsForeign line a (Word v)) (sym (picked holder_word v (the_decimal ∷ the_mode ∷ []) h g)) (mode_earns line a h want))
 by_class line w s v a None g e f want no_deep =
@@ -128,8 +128,8 @@ by_class line w s v a None g e f want no_deep =
       | inr m ↦ (let q : None ≡ Some m.1.0 = sym g ∙ m.1.1 in absurd cc)
     ])
 
-by_none : (line : Line) → IsWhole line → (s : State) (v : List ℕ) (a : List Token) → steps (start line) a ≡ Some s → awaits s ≡ false → (wants s ≡ Some of_quotient → ⊥) → (IsDeep line a (Word v) → ⊥)
-    → HasCause line a (Word v) syntax
+by_none : (line : Line) → IsWholeLine line → (s : State) (v : List ℕ) (a : List Token) → steps (first_state line) a ≡ Some s → awaits s ≡ false → (wants s ≡ Some of_quotient → ⊥) → (IsDeep line a (Word v) → ⊥)
+    → HasStopCause line a (Word v) syntax
 by_none line w s v a e f none no_deep =
     syntax_right line a (Word v) no_deep (λ h. elim h [ ]) (λ h. elim h [ ]) (λ h. elim (foreign_word line a v h) as (λ z. ⊥) [
       | inl m ↦ (let q : false ≡ true = sym f ∙ dot_state line w a m.0 s e m.1 in absurd cc)
@@ -140,7 +140,7 @@ by_none line w s v a e f none no_deep =
 point_last : (a p : List Token) (t : Token) → a ≡ p ++ (t ∷ Mark Dot ∷ []) → a ≡ (p ++ (t ∷ [])) ++ (Mark Dot ∷ [])
 point_last a p t e = e ∙ sym (append_assoc p (t ∷ []) (Mark Dot ∷ []))
 
-word_right : (line : Line) → IsWhole line → (s : State) (v : List ℕ) (a : List Token) → steps (start line) a ≡ Some s → (IsDeep line a (Word v) → ⊥) → HasCause line a (Word v) (word_cause s v)
+word_right : (line : Line) → IsWholeLine line → (s : State) (v : List ℕ) (a : List Token) → steps (first_state line) a ≡ Some s → (IsDeep line a (Word v) → ⊥) → HasStopCause line a (Word v) (word_cause s v)
 word_right line w (Member x k) v a e no_deep = let h = spelled line w a (Member x k) e in by_name line w (Member x k) v a h.0 (is_name v) refl e refl h.2 no_deep
 word_right line w (Static k) v a e no_deep = let h = spelled line w a (Static k) e in by_name line w (Static k) v a _ (is_name v) refl e refl (point_last a h.0 _ h.2) no_deep
 word_right line w (Moded o r n k) v a e no_deep = let h = spelled line w a (Moded o r n k) e in by_name line w (Moded o r n k) v a _ (is_name v) refl e refl (point_last a h.0 _ h.2) no_deep
@@ -155,7 +155,7 @@ word_right line w s v a e no_deep = by_none line w s v a e refl (λ h. absurd cc
 foreign_close : (line : Line) (a : List Token) → IsForeign line a (Mark Close) → (b : List Token) × (n : ℕ) × (a ≡ b ++ (Literal (int n) ∷ [])) × WantsScale line b of_setting
 foreign_close line a (stopping.no_mode b n e h) = (b, n, e, h)
 
-close_right : (line : Line) → IsWhole line → (s : State) (a : List Token) → steps (start line) a ≡ Some s → (IsDeep line a (Mark Close) → ⊥) → HasCause line a (Mark Close) (close_cause s)
+close_right : (line : Line) → IsWholeLine line → (s : State) (a : List Token) → steps (first_state line) a ≡ Some s → (IsDeep line a (Mark Close) → ⊥) → HasStopCause line a (Mark Close) (close_cause s)
 close_right line w (Parting (setting x) n k) a e no_deep =
     let h = spelled line w a (Parting (setting x) n k) e in
     none_greater line a (Mark Close) unsupported no_deep (stopping.no_mode h.1.0 n h.1.1 h.1.2) (λ lt g. elim g [ ]) (λ lt g. elim g [ ]) (λ lt g. absurd (omega (arith, lt)))
@@ -165,7 +165,7 @@ close_right line w s a e no_deep =
 
 -- ---- all of them
 
-pub cause_right : (line : Line) → IsWhole line → (s : State) (t : Token) (a : List Token) → steps (start line) a ≡ Some s → step s t ≡ None → (IsDeep line a t → ⊥) → HasCause line a t (cause_of s t)
+pub cause_right : (line : Line) → IsWholeLine line → (s : State) (t : Token) (a : List Token) → steps (first_state line) a ≡ Some s → step s t ≡ None → (IsDeep line a t → ⊥) → HasStopCause line a t (cause_of s t)
 cause_right line w s Beyond a e f no_deep = great_right line a Beyond no_deep stopping.beyond
 cause_right line w s (Literal (int n)) a e f no_deep = int_right line w s n a e f no_deep
 cause_right line w s (Literal (point d)) a e f no_deep = point_right line w s d a e no_deep

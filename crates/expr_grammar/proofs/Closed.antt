@@ -6,7 +6,7 @@ use Rattle.pap_tree.specs.declared.expression.Unary.TheVariants as unaries
 use Rattle.pap_tree.specs.Term.{Term, unary, operator, one, two, choice}
 use Rattle.pap_tree.specs.Words.{level_of_operator}
 use Rattle.pap_tree.specs.Tokens.{Token}
-use Rattle.pap_tree.specs.Grammar.{Item, Part, Guard, free, no_number, Line, Level, Meaning, tree}
+use Rattle.pap_tree.specs.Grammar.{Item, Part, Guard, free, no_number, Line, Level, LineMeaning, tree}
 use Rattle.pap_tree.specs.Texts.{forbids}
 use Rattle.expr_grammar.specs.Machine.{Frame, InBrackets, InCall, InItem, InValue, InNew, Negating, Denying, Left, Chosen, Otherwise, Assigning, close}
 use Rattle.expr_grammar.proofs.Holes.{hole}
@@ -41,7 +41,7 @@ loosened whole k m n x a h e r = record {
 }
 
 -- the part that was due was read
-pub taken_part : (S : List Token → Type 0) (k j : List Frame) (l : Line) (g : Guard) (m n : ℕ) (x : Term) (more : List Item) (u : ℕ) (z : Meaning) (T : List Token → Type 0) (a : List Token)
+pub taken_part : (S : List Token → Type 0) (k j : List Frame) (l : Line) (g : Guard) (m n : ℕ) (x : Term) (more : List Item) (u : ℕ) (z : LineMeaning) (T : List Token → Type 0) (a : List Token)
     → (r : Read T j (Level m) (tree x) a) → n ≤ m → Pending S k l (Part g (Level n) (tree x) ∷ more) u z r.before → forbids g r.own ≡ false → Pending S k l more u z a
 taken_part S k j l g m n x more u z T a r h p e =
     subst (λ b. Pending S k l more u z b) (sym r.whole)

@@ -12,12 +12,12 @@ use Rattle.pap_tree.specs.Declarations.{big, number, table}
 use Rattle.pap_tree.specs.Tokens as tokens
 use Rattle.pap_tree.specs.Tokens.{Number, Token, Literal, Quoted, Word, Operator, Mark, Dot, Comma, Open, Close, OpenTable, CloseTable}
 use Rattle.pap_tree.specs.Grammar as grammar
-use Rattle.pap_tree.specs.Grammar.{Form, an_int, a_long, a_point, Item, Is, free, Line, Constant, Big, Bigs, Meaning, literal, declared, decimals, sign, word, leaf_of, negative_of, form_of, known_value}
+use Rattle.pap_tree.specs.Grammar.{LiteralForm, an_int, a_long, a_point, Item, Is, free, Line, Constant, Big, Bigs, LineMeaning, literal, declared, decimals, sign, word, leaf_of, negative_of, form_of, known_value}
 use Rattle.pap_tree.specs.Texts as texts
-use Rattle.pap_tree.specs.Texts.{Text}
+use Rattle.pap_tree.specs.Texts.{Derives}
 use Rattle.pap_tree.specs.Fronts as fronts
 use Rattle.pap_tree.specs.Fronts.{Front}
-use Rattle.expr_grammar.specs.Shortened.{shortened}
+use Rattle.expr_grammar.specs.Shortened.{shortened_places}
 use Rattle.expr_grammar.specs.Machine.{Room, Alone, InTable, declaring, Slot, OfLine, OfValue, OfNew, Head, the_class, a_new, head_word, head_of, constant, of_number, constancy_word, constancy_of, State, Due, ScaleDue, Signed, Minus, ValuedInt, ValuedPoint, Settling, Listing, Listed, Done, filled, settled, big_begun, big_step, settling, step}
 use Rattle.expr_grammar.proofs.ShortenedLemmas.{is_shortened}
 use Rattle.expr_grammar.proofs.Words.{picked, mapped}
@@ -29,18 +29,18 @@ use Rattle.expr_grammar.proofs.WantSteps.{moved}
 
 -- ---- a decimal is read
 
-text_is : (l : Line) (a b : List Token) (x : Meaning) → a ≡ b → Text l a x → Text l b x
-text_is l a b x e t = subst (λ a. Text l a x) e t
+text_is : (l : Line) (a b : List Token) (x : LineMeaning) → a ≡ b → Derives l a x → Derives l b x
+text_is l a b x e t = subst (λ a. Derives l a x) e t
 
-last_text : (b : List Token) (d : Decimal) → Text Big b (declared (big d)) → Text Bigs b (decimals (d ∷ []))
+last_text : (b : List Token) (d : Decimal) → Derives Big b (declared (big d)) → Derives Bigs b (decimals (d ∷ []))
 last_text b d t = text_is Bigs (b ++ []) b _ (append-nil b) (texts.by _ (grammar.last_big d) (texts.part refl t texts.done))
 
-more_text : (b c : List Token) (d : Decimal) (es : List Decimal) → Text Big b (declared (big d)) → Text Bigs c (decimals es) → Text Bigs (b ++ (Mark Comma ∷ c)) (decimals (d ∷ es))
+more_text : (b c : List Token) (d : Decimal) (es : List Decimal) → Derives Big b (declared (big d)) → Derives Bigs c (decimals es) → Derives Bigs (b ++ (Mark Comma ∷ c)) (decimals (d ∷ es))
 more_text b c d es t u =
     text_is Bigs (b ++ (Mark Comma ∷ (c ++ []))) (b ++ (Mark Comma ∷ c)) _ (ap (λ c. b ++ (Mark Comma ∷ c)) (append-nil c))
     (texts.by _ (grammar.more_bigs d es) (texts.part refl t (texts.is (texts.part refl u texts.done))))
 
-more_front : (b c : List Token) (d : Decimal) (n : ℕ) (i : Option Item) → Text Big b (declared (big d)) → Front Bigs c n i → Front Bigs (b ++ (Mark Comma ∷ c)) n i
+more_front : (b c : List Token) (d : Decimal) (n : ℕ) (i : Option Item) → Derives Big b (declared (big d)) → Front Bigs c n i → Front Bigs (b ++ (Mark Comma ∷ c)) n i
 more_front b c d n i t f = fronts.by _ (grammar.more_bigs d []) (fronts.past refl t (fronts.is (fronts.inside n (omega arith) refl f)))
 
 -- the tokens up to a comma, and those after it
@@ -48,17 +48,17 @@ comma_after : (a p b c : List Token) → a ≡ p ++ b → p ++ (b ++ (Mark Comma
 comma_after a p b c e = sym (append_assoc p b (Mark Comma ∷ c)) ∙ ap (λ z. z ++ (Mark Comma ∷ c)) (sym e) ∙ sym (append_assoc a (Mark Comma ∷ []) c)
 
 -- the table goes on after one more decimal
-tabled : (line : Line) (ds : List Decimal) (d : Decimal) (p b a : List Token) → IsTabled line ds p → Text Big b (declared (big d)) → a ≡ p ++ b → IsTabled line (ds ++ (d ∷ [])) (a ++ (Mark Comma ∷ []))
+tabled : (line : Line) (ds : List Decimal) (d : Decimal) (p b a : List Token) → IsTabled line ds p → Derives Big b (declared (big d)) → a ≡ p ++ b → IsTabled line (ds ++ (d ∷ [])) (a ++ (Mark Comma ∷ []))
 tabled line ds d p b a h t e = record {
   line = h.line;
   fronts = λ c n i f. subst (λ z. Front Constant z n i) (comma_after a p b c e) (h.fronts (b ++ (Mark Comma ∷ c)) n i (more_front b c d n i t f));
-  texts = λ c es u. subst (λ (all : List Decimal). Text Constant ((a ++ (Mark Comma ∷ [])) ++ (c ++ (Mark CloseTable ∷ []))) (declared (table all))) (sym (append_assoc ds (d ∷ []) es))
+  texts = λ c es u. subst (λ (all : List Decimal). Derives Constant ((a ++ (Mark Comma ∷ [])) ++ (c ++ (Mark CloseTable ∷ []))) (declared (table all))) (sym (append_assoc ds (d ∷ []) es))
       (text_is Constant (p ++ ((b ++ (Mark Comma ∷ c)) ++ (Mark CloseTable ∷ []))) ((a ++ (Mark Comma ∷ [])) ++ (c ++ (Mark CloseTable ∷ []))) _
       (ap (λ z. p ++ z) (append_assoc b (Mark Comma ∷ c) (Mark CloseTable ∷ [])) ∙ comma_after a p b (c ++ (Mark CloseTable ∷ [])) e)
       (h.texts (b ++ (Mark Comma ∷ c)) (d ∷ es) (more_text b c d es t u)));
 }
 
-listed : (line : Line) (ds : List Decimal) (d : Decimal) (p b a : List Token) → IsTabled line ds p → Text Big b (declared (big d)) → a ≡ p ++ b → IsListed line (ds ++ (d ∷ [])) a
+listed : (line : Line) (ds : List Decimal) (d : Decimal) (p b a : List Token) → IsTabled line ds p → Derives Big b (declared (big d)) → a ≡ p ++ b → IsListed line (ds ++ (d ∷ [])) a
 listed line ds d p b a h t e = record {
   line = h.line;
   next = None;
@@ -68,8 +68,8 @@ listed line ds d p b a h t e = record {
 }
 
 -- the whole line is one text
-lone_text : (line : Line) (p b a : List Token) (x : Meaning) → (line ≡ Constant) × (p ≡ []) → a ≡ p ++ b → Text Constant b x → Text line a x
-lone_text line p b a x (f, g) e t = subst (λ l. Text l a x) (sym f) (text_is Constant b a x (sym (e ∙ ap (λ p. p ++ b) g)) t)
+lone_text : (line : Line) (p b a : List Token) (x : LineMeaning) → (line ≡ Constant) × (p ≡ []) → a ≡ p ++ b → Derives Constant b x → Derives line a x
+lone_text line p b a x (f, g) e t = subst (λ l. Derives l a x) (sym f) (text_is Constant b a x (sym (e ∙ ap (λ p. p ++ b) g)) t)
 
 settle : (line : Line) (r : Room) (m : ℕ) (d : Decimal) (a : List Token) → PendingBig line r [] m d a → Spelled line (settled r d) a
 settle line Alone m d a h =
@@ -90,7 +90,7 @@ big_close_due line r d a h =
 
 -- ---- literals
 
-form_of_leaf : Leaf → Form
+form_of_leaf : Leaf → LiteralForm
 form_of_leaf (terms.long i) = a_long
 form_of_leaf (point d) = a_point
 form_of_leaf _ = an_int
@@ -110,21 +110,21 @@ minus_form (tokens.point d) = refl
 some_shortened : IsShortened (decimal (pos 0) 1) 1 (decimal (pos 0) 1)
 some_shortened = record { low = omega arith; high = omega arith; same = refl; short = λ h. refl }
 
-value_passed : (line : Line) (r : Room) (d : Decimal) (l : Leaf) (f : Form) (more : List Item) (q p b a : List Token)
+value_passed : (line : Line) (r : Room) (d : Decimal) (l : Leaf) (f : LiteralForm) (more : List Item) (q p b a : List Token)
     → grammar.Way Big (word (codes "BigDecimal") ∷ sign Dot ∷ word (codes "valueOf") ∷ grammar.opens Open ∷ grammar.signed f l ∷ more) (declared (big d)) → Place line r q → p ≡ q ++ value_tokens
-    → Text (grammar.Signed f) b (literal l) → a ≡ p ++ b → PendingBig line r more 1 d a
+    → Derives (grammar.Signed f) b (literal l) → a ≡ p ++ b → PendingBig line r more 1 d a
 value_passed line r d l f more q p b a w s g t e =
     subst (λ a. PendingBig line r more 1 d a) (sym e)
     (pass_part (λ p. Place line r p) [] Big free (grammar.Signed f) (literal l) more 1 (declared (big d)) p b refl (λ c. refl) t (of_big_value line r d (grammar.signed f l ∷ more) q p w s g))
 
-point_front : (line : Line) (r : Room) (d : Decimal) (q p b a : List Token) → Place line r q → p ≡ q ++ value_tokens → Text (grammar.Signed a_point) b (literal (point d)) → a ≡ p ++ b → IsAt line a 1
+point_front : (line : Line) (r : Room) (d : Decimal) (q p b a : List Token) → Place line r q → p ≡ q ++ value_tokens → Derives (grammar.Signed a_point) b (literal (point d)) → a ≡ p ++ b → IsAt line a 1
 point_front line r d q p b a s g t e =
     at_level line a ((1 + 0) + 0) 1 None (omega arith) (subst (λ a. Front line a ((1 + 0) + 0) None) (sym e)
     (front_inside (λ p. Place line r p) [] Big line 0 free (grammar.Signed a_point) (literal (point (decimal (pos 0) 1))) _ 1 _ p b 0 None (plug_big line r) refl (text_front t)
     (of_big_value line r (decimal (pos 0) 1) (grammar.signed a_point (point (decimal (pos 0) 1)) ∷ sign Close ∷ []) q p
     (grammar.big_of_point (decimal (pos 0) 1) (decimal (pos 0) 1) some_shortened) s g)))
 
-filled_steps : (line : Line) (s : Slot) (l : Leaf) (r : State) (p b a : List Token) → IsSlot line s p → Text (grammar.Signed (form_of_leaf l)) b (literal l) → a ≡ p ++ b → filled s l ≡ Some r → Spelled line r a
+filled_steps : (line : Line) (s : Slot) (l : Leaf) (r : State) (p b a : List Token) → IsSlot line s p → Derives (grammar.Signed (form_of_leaf l)) b (literal l) → a ≡ p ++ b → filled s l ≡ Some r → Spelled line r a
 unfolding form_of_leaf
 filled_steps line OfLine l r p b a s t e f =
     moved line (Done (declared (number l))) r a f (lone_text line p b a _ s e
@@ -143,10 +143,10 @@ filled_steps line (OfNew o) (terms.whole i) r p b a (q, s, g) t e f =
     (of_big_new line o (decimal i 0) (grammar.signed an_int (terms.whole i) ∷ sign Close ∷ []) q p (grammar.big_new i) s g))))
 filled_steps line s l r p b a h t e f = absurd cc
 
-plain_text : (n : Number) → Text (grammar.Signed (form_of_leaf (leaf_of n))) (Literal n ∷ []) (literal (leaf_of n))
+plain_text : (n : Number) → Derives (grammar.Signed (form_of_leaf (leaf_of n))) (Literal n ∷ []) (literal (leaf_of n))
 plain_text n = texts.by _ (grammar.without_sign (form_of_leaf (leaf_of n)) n (plain_form n)) (texts.is texts.done)
 
-minus_text : (n : Number) → Text (grammar.Signed (form_of_leaf (negative_of n))) (Operator binaries.Sub ∷ Literal n ∷ []) (literal (negative_of n))
+minus_text : (n : Number) → Derives (grammar.Signed (form_of_leaf (negative_of n))) (Operator binaries.Sub ∷ Literal n ∷ []) (literal (negative_of n))
 minus_text n = texts.by _ (grammar.with_sign (form_of_leaf (negative_of n)) n (minus_form n)) (texts.opens (texts.is texts.done))
 
 -- ---- the words of a decimal
@@ -197,7 +197,7 @@ opened_table : (line : Line) (a : List Token) → (line ≡ Constant) × (a ≡ 
 opened_table line a (e, f) = record {
   line = e;
   fronts = λ b n i g. subst (λ a. Front Constant ((a ++ (Mark OpenTable ∷ [])) ++ b) n i) (sym f) (fronts.by _ (grammar.table_constant []) (fronts.is (fronts.inside n (omega arith) refl g)));
-  texts = λ b es t. subst (λ a. Text Constant ((a ++ (Mark OpenTable ∷ [])) ++ (b ++ (Mark CloseTable ∷ []))) (declared (table es))) (sym f)
+  texts = λ b es t. subst (λ a. Derives Constant ((a ++ (Mark OpenTable ∷ [])) ++ (b ++ (Mark CloseTable ∷ []))) (declared (table es))) (sym f)
       (texts.by _ (grammar.table_constant es) (texts.is (texts.part refl t (texts.is texts.done))));
 }
 
@@ -225,7 +225,7 @@ int_steps line i o t r a h e = absurd cc
 
 pub point_steps : (line : Line) (d : Decimal) (o : Room) (t : Token) (r : State) (a : List Token) → Spelled line (ValuedPoint d o) a → step (ValuedPoint d o) t ≡ Some r → Spelled line r (a ++ (t ∷ []))
 point_steps line d o (Mark Close) r a h e =
-    let (c, f, g) = mapped (settled o) (shortened d) r e in
+    let (c, f, g) = mapped (settled o) (shortened_places d) r e in
     subst (λ r. Spelled line r (a ++ (Mark Close ∷ []))) g (settle_at line o (Mark Close) 1 c a (h.1 c (is_shortened d c f)))
 point_steps line d o t r a h e = absurd cc
 
@@ -252,5 +252,5 @@ listing_steps line ds t r a h e = absurd cc
 pub listed_steps : (line : Line) (ds : List Decimal) (t : Token) (r : State) (a : List Token) → Spelled line (Listed ds) a → step (Listed ds) t ≡ Some r → Spelled line r (a ++ (t ∷ []))
 listed_steps line ds (Mark Comma) r a h e = moved line (Listing ds) r _ e h.more
 listed_steps line ds (Mark CloseTable) r a h e =
-    moved line (Done (declared (table ds))) r _ e (subst (λ l. Text l (a ++ (Mark CloseTable ∷ [])) (declared (table ds))) (sym h.line) h.text)
+    moved line (Done (declared (table ds))) r _ e (subst (λ l. Derives l (a ++ (Mark CloseTable ∷ [])) (declared (table ds))) (sym h.line) h.text)
 listed_steps line ds t r a h e = absurd cc

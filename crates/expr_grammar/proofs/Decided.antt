@@ -3,38 +3,38 @@ use Rattle.std.proofs.Common.{◌≡◌, ℕ, ◌≤◌, ◌<◌, ◌⊎◌, inl
 use Rattle.std.specs.Prelude.{IsTrue}
 use Rattle.std.proofs.lemmas.List.{append-nil, take-append-drop, length-take, length-drop}
 use Rattle.pap_tree.specs.Tokens.{Token, Spot, plain}
-use Rattle.pap_tree.specs.Grammar.{Line, Meaning}
-use Rattle.pap_tree.specs.Texts.{Text}
+use Rattle.pap_tree.specs.Grammar.{Line, LineMeaning}
+use Rattle.pap_tree.specs.Texts.{Derives}
 use Rattle.pap_tree.specs.Limits.{most_tokens}
-use Rattle.pap_tree.specs.Stopping.{IsRead, HasCause, StopsBefore, IsRefusedAt, Cause, syntax, unsupported, binary_fraction, number, deep, rank, has_limits}
-use Rattle.expr_grammar.specs.Lines.{IsWhole}
-use Rattle.expr_grammar.specs.Machine.{start}
-use Rattle.expr_grammar.specs.Run.{Refusal, refusal, run, never, cut_answer, answer}
+use Rattle.pap_tree.specs.Stopping.{IsRead, HasStopCause, StopsBefore, IsRefusedAt, Cause, syntax, unsupported, binary_fraction, number, deep, rank, has_limits}
+use Rattle.expr_grammar.specs.Lines.{IsWholeLine}
+use Rattle.expr_grammar.specs.Machine.{first_state}
+use Rattle.expr_grammar.specs.Run.{Refusal, refusal_at, run, never, cut_answer, answer}
 use Rattle.expr_grammar.specs.GrammarLaws.{IsTakenAs}
 use Rattle.expr_grammar.proofs.Reading.{text_ends, text_runs}
 use Rattle.expr_grammar.proofs.Exact.{plain_append, length_plain, Halts, Answers, stopped_deep, runs}
 
 -- ---- a text has one meaning
 
-meaning_is : (x y : Meaning) → Some x ≡ Some y → x ≡ y
+meaning_is : (x y : LineMeaning) → Some x ≡ Some y → x ≡ y
 meaning_is x y e = cc
 
-pub one_meaning : (line : Line) → IsWhole line → (a : List Token) (x y : Meaning) → Text line a x → Text line a y → x ≡ y
+pub one_meaning : (line : Line) → IsWholeLine line → (a : List Token) (x y : LineMeaning) → Derives line a x → Derives line a y → x ≡ y
 one_meaning line w a x y h k =
     let (s, e) = text_runs line w a x h in
     meaning_is x y (sym (text_ends line w a x s h e) ∙ text_ends line w a y s k e)
 
 -- ---- a line within the limits isn't refused
 
-stops_after : (line : Line) (ts : List Spot) (end : ℕ) (x : Meaning) (c : Cause) (at : ℕ) (before after : List Spot) → Text line (plain ts) x → IsRead line (plain ts) → ts ≡ before ++ after
+stops_after : (line : Line) (ts : List Spot) (end : ℕ) (x : LineMeaning) (c : Cause) (at : ℕ) (before after : List Spot) → Derives line (plain ts) x → IsRead line (plain ts) → ts ≡ before ++ after
     → StopsBefore line end (plain before) after c at → ⊥
-stops_after line ts end x c at before [] t r e s = s.2 x (subst (λ p. Text line (plain p) x) (e ∙ append-nil before) t)
+stops_after line ts end x c at before [] t r e s = s.2 x (subst (λ p. Derives line (plain p) x) (e ∙ append-nil before) t)
 stops_after line ts end x c at before (u ∷ after) t r e s = r (plain before) (plain after) u.token (ap plain e ∙ plain_append before (u ∷ after)) s.1
 
-pub text_or_refusal : (line : Line) (ts : List Spot) (end : ℕ) (x : Meaning) (c : Cause) (at : ℕ) → Text line (plain ts) x → IsRead line (plain ts) → IsRefusedAt line ts end c at → ⊥
+pub text_or_refusal : (line : Line) (ts : List Spot) (end : ℕ) (x : LineMeaning) (c : Cause) (at : ℕ) → Derives line (plain ts) x → IsRead line (plain ts) → IsRefusedAt line ts end c at → ⊥
 text_or_refusal line ts end x c at t r h = stops_after line ts end x c at h.before h.after t r h.whole h.stop
 
--- ---- one refusal
+-- ---- one refusal_at
 
 same_rank : (c d : Cause) → rank c ≡ rank d → c ≡ d
 same_rank syntax syntax e = refl
@@ -47,7 +47,7 @@ same_rank c d e = absurd (omega (arith, e))
 compared : (m n : ℕ) → (m < n) ⊎ ((n < m) ⊎ (m ≡ n))
 compared m n = grind arith
 
-one_cause : (line : Line) (a : List Token) (t : Token) (c d : Cause) → HasCause line a t c → HasCause line a t d → c ≡ d
+one_cause : (line : Line) (a : List Token) (t : Token) (c d : Cause) → HasStopCause line a t c → HasStopCause line a t d → c ≡ d
 one_cause line a t c d h k = elim (compared (rank c) (rank d)) as (λ z. c ≡ d) [
   | inl f ↦ absurd (h.first d f k.earned)
   | inr f ↦ elim f as (λ z. c ≡ d) [
@@ -105,15 +105,15 @@ one_refusal line ts end c d m n h k = elim (cuts h.before k.before h.after k.aft
 -- ---- the answer
 
 -- what the answer says of the tokens
-abbrev pub Says : Line → ℕ → List Spot → Result Meaning Refusal → Type 0
-Says line end ts (Ok x) = Text line (plain ts) x × IsRead line (plain ts)
+abbrev pub Says : Line → ℕ → List Spot → Result LineMeaning Refusal → Type 0
+Says line end ts (Ok x) = Derives line (plain ts) x × IsRead line (plain ts)
 Says line end ts (Err e) = IsRefusedAt line ts end e.cause e.at
 
-ended : (line : Line) (end : ℕ) (before : List Token) (after : List Spot) (e : Refusal) → Halts line (refusal syntax end) before after e → StopsBefore line end before after e.cause e.at
+ended : (line : Line) (end : ℕ) (before : List Token) (after : List Spot) (e : Refusal) → Halts line (refusal_at syntax end) before after e → StopsBefore line end before after e.cause e.at
 ended line end before [] e h = (ap (λ f. f.at) h.0, ap (λ f. f.cause) h.0, h.1)
 ended line end before (t ∷ ts) e h = h
 
-says : (line : Line) (end : ℕ) (ts : List Spot) (r : Result Meaning Refusal) → Answers line (refusal syntax end) ts r → Says line end ts r
+says : (line : Line) (end : ℕ) (ts : List Spot) (r : Result LineMeaning Refusal) → Answers line (refusal_at syntax end) ts r → Says line end ts r
 says line end ts (Ok x) h = h
 says line end ts (Err e) h = record { before = h.before; after = h.after; whole = h.whole; read = h.read; stop = ended line end (plain h.before) h.after e h.stop }
 
@@ -124,25 +124,25 @@ no_more line all few b c u e stops = absurd (no_front b c u e)
     no_front [] c u e = cc
     no_front (v ∷ b) c u e = cc
 
-from_start : (line : Line) → IsWhole line → (f : Refusal) (ts : List Spot) → (IsTrue (has_limits line) → length ts ≤ most_tokens) → Answers line f ts (run line f (start line) ts)
-from_start line w f ts few = runs line w ts f ts [] (start line) refl few refl (no_more line ts few)
+from_start : (line : Line) → IsWholeLine line → (f : Refusal) (ts : List Spot) → (IsTrue (has_limits line) → length ts ≤ most_tokens) → Answers line f ts (run line f (first_state line) ts)
+from_start line w f ts few = runs line w ts f ts [] (first_state line) refl few refl (no_more line ts few)
 
 -- where a token too many follows
 cut_refused : (line : Line) (end : ℕ) (front : List Spot) (t : Spot) (rest : List Spot) → IsTrue (has_limits line) → most_tokens ≤ length front → IsRead line (plain front)
     → IsRefusedAt line (front ++ (t ∷ rest)) end deep t.at
 cut_refused line end front t rest limits many read =
     let l = length_plain front in
-    let h = stopped_deep line (refusal syntax end) (front ++ (t ∷ rest)) front t rest refl read (limits, inl (omega (arith, l, many))) in
-    record { before = h.before; after = h.after; whole = h.whole; read = h.read; stop = ended line end (plain h.before) h.after (refusal deep t.at) h.stop }
+    let h = stopped_deep line (refusal_at syntax end) (front ++ (t ∷ rest)) front t rest refl read (limits, inl (omega (arith, l, many))) in
+    record { before = h.before; after = h.after; whole = h.whole; read = h.read; stop = ended line end (plain h.before) h.after (refusal_at deep t.at) h.stop }
 
 refused_is : (line : Line) (ts : List Spot) (end : ℕ) (e f : Refusal) → f ≡ e → IsRefusedAt line ts end f.cause f.at → IsRefusedAt line ts end e.cause e.at
 refused_is line ts end e f g h = subst (λ e. IsRefusedAt line ts end e.cause e.at) g h
 
 early : (line : Line) (end : ℕ) (front : List Spot) (t : Spot) (rest : List Spot) (e : Refusal) (before after : List Spot) → IsTrue (has_limits line) → most_tokens ≤ length front
-    → front ≡ before ++ after → IsRead line (plain before) → Halts line (refusal deep t.at) (plain before) after e → IsRefusedAt line (front ++ (t ∷ rest)) end e.cause e.at
+    → front ≡ before ++ after → IsRead line (plain before) → Halts line (refusal_at deep t.at) (plain before) after e → IsRefusedAt line (front ++ (t ∷ rest)) end e.cause e.at
 early line end front t rest e before [] limits many g read h =
     let same : before ≡ front = sym (append-nil before) ∙ sym g in
-    refused_is line (front ++ (t ∷ rest)) end e (refusal deep t.at) (sym h.0) (cut_refused line end front t rest limits many (subst (λ p. IsRead line (plain p)) same read))
+    refused_is line (front ++ (t ∷ rest)) end e (refusal_at deep t.at) (sym h.0) (cut_refused line end front t rest limits many (subst (λ p. IsRead line (plain p)) same read))
 early line end front t rest e before (u ∷ after) limits many g read h = record {
   before = before;
   after = u ∷ (after ++ (t ∷ rest));
@@ -151,19 +151,19 @@ early line end front t rest e before (u ∷ after) limits many g read h = record
   stop = h;
 }
 
-cut_says : (line : Line) (end : ℕ) (front : List Spot) (t : Spot) (rest : List Spot) (r : Result Meaning Refusal) → IsTrue (has_limits line) → most_tokens ≤ length front
-    → Answers line (refusal deep t.at) front r → Says line end (front ++ (t ∷ rest)) (never (refusal deep t.at) r)
+cut_says : (line : Line) (end : ℕ) (front : List Spot) (t : Spot) (rest : List Spot) (r : Result LineMeaning Refusal) → IsTrue (has_limits line) → most_tokens ≤ length front
+    → Answers line (refusal_at deep t.at) front r → Says line end (front ++ (t ∷ rest)) (never (refusal_at deep t.at) r)
 cut_says line end front t rest (Ok x) limits many h = cut_refused line end front t rest limits many h.1
 cut_says line end front t rest (Err e) limits many h = early line end front t rest e h.before h.after limits many h.whole h.read h.stop
 
 -- the first tokens are as many as may be, or all
-by_rest : (line : Line) → IsWhole line → (end : ℕ) (front rest : List Spot) → (IsTrue (has_limits line) → length front ≤ most_tokens)
+by_rest : (line : Line) → IsWholeLine line → (end : ℕ) (front rest : List Spot) → (IsTrue (has_limits line) → length front ≤ most_tokens)
     → (0 < length rest → IsTrue (has_limits line) × (most_tokens ≤ length front)) → Says line end (front ++ rest) (cut_answer line end front rest)
 by_rest line w end front [] few many =
-    subst (λ ts. Says line end ts (run line (refusal syntax end) (start line) front)) (sym (append-nil front)) (says line end front _ (from_start line w (refusal syntax end) front few))
+    subst (λ ts. Says line end ts (run line (refusal_at syntax end) (first_state line) front)) (sym (append-nil front)) (says line end front _ (from_start line w (refusal_at syntax end) front few))
 by_rest line w end front (t ∷ rest) few many =
     let (limits, full) = many (omega arith) in
-    cut_says line end front t rest (run line (refusal deep t.at) (start line) front) limits full (from_start line w (refusal deep t.at) front few)
+    cut_says line end front t rest (run line (refusal_at deep t.at) (first_state line) front) limits full (from_start line w (refusal_at deep t.at) front few)
 
 few_taken : (ts : List Spot) → length (take most_tokens ts) ≤ most_tokens
 few_taken ts = let e = length-take most_tokens ts in omega (arith, e)
@@ -171,7 +171,7 @@ few_taken ts = let e = length-take most_tokens ts in omega (arith, e)
 all_taken : (ts : List Spot) → 0 < length (drop most_tokens ts) → most_tokens ≤ length (take most_tokens ts)
 all_taken ts h = let e = length-take most_tokens ts in let f = length-drop most_tokens ts in omega (arith, e, f, h)
 
-by_limits : (line : Line) → IsWhole line → (end : ℕ) (ts : List Spot) (c : Bool) → has_limits line ≡ c
+by_limits : (line : Line) → IsWholeLine line → (end : ℕ) (ts : List Spot) (c : Bool) → has_limits line ≡ c
     → Says line end ts (cond c (cut_answer line end (take most_tokens ts) (drop most_tokens ts)) (cut_answer line end ts []))
 by_limits line w end ts true e =
     subst (λ ts'. Says line end ts' (cut_answer line end (take most_tokens ts) (drop most_tokens ts))) (take-append-drop most_tokens ts)
@@ -180,43 +180,43 @@ by_limits line w end ts false e =
     subst (λ ts'. Says line end ts' (cut_answer line end ts [])) (append-nil ts)
     (by_rest line w end ts [] (λ h. let f : false ≡ true = sym e ∙ h in absurd cc) (λ h. absurd (omega (arith, h))))
 
-pub answered : (line : Line) → IsWhole line → (end : ℕ) (ts : List Spot) → Says line end ts (answer line end ts)
+pub answered : (line : Line) → IsWholeLine line → (end : ℕ) (ts : List Spot) → Says line end ts (answer line end ts)
 answered line w end ts = by_limits line w end ts (has_limits line) refl
 
 -- ---- both directions
 
-ok_says : (line : Line) (end : ℕ) (ts : List Spot) (x : Meaning) (r : Result Meaning Refusal) → r ≡ Ok x → Says line end ts r → Text line (plain ts) x × IsRead line (plain ts)
+ok_says : (line : Line) (end : ℕ) (ts : List Spot) (x : LineMeaning) (r : Result LineMeaning Refusal) → r ≡ Ok x → Says line end ts r → Derives line (plain ts) x × IsRead line (plain ts)
 ok_says line end ts x r e h = subst (λ r. Says line end ts r) e h
 
-err_says : (line : Line) (end : ℕ) (ts : List Spot) (f : Refusal) (r : Result Meaning Refusal) → r ≡ Err f → Says line end ts r → IsRefusedAt line ts end f.cause f.at
+err_says : (line : Line) (end : ℕ) (ts : List Spot) (f : Refusal) (r : Result LineMeaning Refusal) → r ≡ Err f → Says line end ts r → IsRefusedAt line ts end f.cause f.at
 err_says line end ts f r e h = subst (λ r. Says line end ts r) e h
 
-says_ok : (line : Line) → IsWhole line → (end : ℕ) (ts : List Spot) (x : Meaning) (r : Result Meaning Refusal) → Says line end ts r → Text line (plain ts) x → IsRead line (plain ts) → r ≡ Ok x
+says_ok : (line : Line) → IsWholeLine line → (end : ℕ) (ts : List Spot) (x : LineMeaning) (r : Result LineMeaning Refusal) → Says line end ts r → Derives line (plain ts) x → IsRead line (plain ts) → r ≡ Ok x
 says_ok line w end ts x (Ok y) h t read = ap Ok (one_meaning line w (plain ts) y x h.0 t)
 says_ok line w end ts x (Err e) h t read = absurd (text_or_refusal line ts end x e.cause e.at t read h)
 
 refusal_is : (e f : Refusal) → IsSame e.cause e.at f.cause f.at → e ≡ f
-refusal_is e f h = ap (λ c. refusal c e.at) h.0 ∙ ap (λ n. refusal f.cause n) h.1
+refusal_is e f h = ap (λ c. refusal_at c e.at) h.0 ∙ ap (λ n. refusal_at f.cause n) h.1
 
-says_err : (line : Line) (end : ℕ) (ts : List Spot) (f : Refusal) (r : Result Meaning Refusal) → Says line end ts r → IsRefusedAt line ts end f.cause f.at → r ≡ Err f
+says_err : (line : Line) (end : ℕ) (ts : List Spot) (f : Refusal) (r : Result LineMeaning Refusal) → Says line end ts r → IsRefusedAt line ts end f.cause f.at → r ≡ Err f
 says_err line end ts f (Ok x) h k = absurd (text_or_refusal line ts end x f.cause f.at h.0 h.1 k)
 says_err line end ts f (Err e) h k = ap Err (refusal_is e f (one_refusal line ts end e.cause f.cause e.at f.at h k))
 
-pub answer_ok : (line : Line) → IsWhole line → (end : ℕ) (ts : List Spot) (x : Meaning) → answer line end ts ≡ Ok x → Text line (plain ts) x × IsRead line (plain ts)
+pub answer_ok : (line : Line) → IsWholeLine line → (end : ℕ) (ts : List Spot) (x : LineMeaning) → answer line end ts ≡ Ok x → Derives line (plain ts) x × IsRead line (plain ts)
 answer_ok line w end ts x e = ok_says line end ts x (answer line end ts) e (answered line w end ts)
 
-pub ok_answer : (line : Line) → IsWhole line → (end : ℕ) (ts : List Spot) (x : Meaning) → Text line (plain ts) x → IsRead line (plain ts) → answer line end ts ≡ Ok x
+pub ok_answer : (line : Line) → IsWholeLine line → (end : ℕ) (ts : List Spot) (x : LineMeaning) → Derives line (plain ts) x → IsRead line (plain ts) → answer line end ts ≡ Ok x
 ok_answer line w end ts x t read = says_ok line w end ts x (answer line end ts) (answered line w end ts) t read
 
-pub answer_err : (line : Line) → IsWhole line → (end : ℕ) (ts : List Spot) (f : Refusal) → answer line end ts ≡ Err f → IsRefusedAt line ts end f.cause f.at
+pub answer_err : (line : Line) → IsWholeLine line → (end : ℕ) (ts : List Spot) (f : Refusal) → answer line end ts ≡ Err f → IsRefusedAt line ts end f.cause f.at
 answer_err line w end ts f e = err_says line end ts f (answer line end ts) e (answered line w end ts)
 
-pub err_answer : (line : Line) → IsWhole line → (end : ℕ) (ts : List Spot) (f : Refusal) → IsRefusedAt line ts end f.cause f.at → answer line end ts ≡ Err f
+pub err_answer : (line : Line) → IsWholeLine line → (end : ℕ) (ts : List Spot) (f : Refusal) → IsRefusedAt line ts end f.cause f.at → answer line end ts ≡ Err f
 err_answer line w end ts f h = says_err line end ts f (answer line end ts) (answered line w end ts) h
 
-said : (line : Line) (end : ℕ) (ts : List Spot) (r : Result Meaning Refusal) → Says line end ts r → ((x : Meaning) × IsTakenAs line ts x) ⊎ ((c : Cause) × (at : ℕ) × IsRefusedAt line ts end c at)
+said : (line : Line) (end : ℕ) (ts : List Spot) (r : Result LineMeaning Refusal) → Says line end ts r → ((x : LineMeaning) × IsTakenAs line ts x) ⊎ ((c : Cause) × (at : ℕ) × IsRefusedAt line ts end c at)
 said line end ts (Ok x) h = inl (x, h)
 said line end ts (Err e) h = inr (e.cause, e.at, h)
 
-pub one_of_two : (line : Line) → IsWhole line → (end : ℕ) (ts : List Spot) → ((x : Meaning) × IsTakenAs line ts x) ⊎ ((c : Cause) × (at : ℕ) × IsRefusedAt line ts end c at)
+pub one_of_two : (line : Line) → IsWholeLine line → (end : ℕ) (ts : List Spot) → ((x : LineMeaning) × IsTakenAs line ts x) ⊎ ((c : Cause) × (at : ℕ) × IsRefusedAt line ts end c at)
 one_of_two line w end ts = said line end ts (answer line end ts) (answered line w end ts)

@@ -7,9 +7,9 @@ use Rattle.pap_tree.specs.Term.{whole, point}
 use Rattle.pap_tree.specs.Declarations.{big}
 use Rattle.pap_tree.specs.Tokens as tokens
 use Rattle.pap_tree.specs.Tokens.{Token, Literal, Operator, int}
-use Rattle.pap_tree.specs.Grammar.{Item, Scale, Line, Meaning, tree, literal, mode, assignment, declared, decimals}
+use Rattle.pap_tree.specs.Grammar.{Item, Scale, Line, LineMeaning, tree, literal, mode, assignment, declared, decimals}
 use Rattle.pap_tree.specs.Texts as texts
-use Rattle.pap_tree.specs.Texts.{Text, Texts, begins_number, begins_point}
+use Rattle.pap_tree.specs.Texts.{Derives, Texts, begins_number, begins_point}
 use Rattle.pap_tree.specs.Fronts as fronts
 use Rattle.pap_tree.specs.Fronts.{Front, Fronts}
 use Rattle.expr_grammar.specs.Machine.{InNew, Negating, OfLine, OfValue, OfNew, State, Want, Moding, Naming, Signed, Listing, level_of, step, steps}
@@ -65,7 +65,7 @@ one_step s t ts r e = ap (λ o. option_and_then (λ x. steps x ts) o) e
 -- ---- texts
 
 -- after a text nothing is closed that was open before the line
-pub kept : (s : State) (x : Meaning) → level_of s ≤ level_of (after s x)
+pub kept : (s : State) (x : LineMeaning) → level_of s ≤ level_of (after s x)
 kept (Want k) (tree x) = omega arith
 kept (Want k) (literal l) = omega arith
 kept (Moding r s k) (mode m) = omega arith
@@ -109,7 +109,7 @@ part_last inner l s p a f g h le = record {
 }
 
 mutual
-  pub goes : {l : Line} {a : List Token} {x : Meaning} → Text l a x → (s : State) → Suits l s → clashes s a ≡ false → Goes l s a (after s x)
+  pub goes : {l : Line} {a : List Token} {x : LineMeaning} → Derives l a x → (s : State) → Suits l s → clashes s a ≡ false → Goes l s a (after s x)
   goes (texts.by way w h) s su cl = walks h (clashes s) (earlier s) (ways w s su) cl
 
   walks : {way : List Item} {a : List Token} → Texts way a → (c : List Token → Bool) → Earlier c → {l : Line} {m : ℕ} {s f : State}

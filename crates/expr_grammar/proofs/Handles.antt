@@ -5,7 +5,7 @@ use Rattle.pap_tree.specs.Term.{whole, point, leaf}
 use Rattle.pap_tree.specs.Declarations.{number, big}
 use Rattle.pap_tree.specs.Tokens.{Token, Literal, Mark, Close, int}
 use Rattle.pap_tree.specs.Grammar as grammar
-use Rattle.pap_tree.specs.Grammar.{Form, an_int, a_point, Line, Level, Rounding, Assignment, Constant, Big, Bigs, Meaning, tree, literal, mode, assignment, declared, decimals, Guard, Item, Is, Opens, Scale, Part}
+use Rattle.pap_tree.specs.Grammar.{LiteralForm, an_int, a_point, Line, Level, Rounding, Assignment, Constant, Big, Bigs, LineMeaning, tree, literal, mode, assignment, declared, decimals, Guard, Item, Is, Opens, Scale, Part}
 use Rattle.pap_tree.specs.Texts.{forbids}
 use Rattle.expr_grammar.specs.Machine.{Frame, Rounded, dividing, setting, Room, Alone, InTable, valuing, rounding, declaring, OfLine, OfValue, OfNew, State, Want, Have, Due, ScaleDue, Moding, Naming, Signed, ValuedInt, ValuedPoint, Listing, Listed, Done, level_of, settled, moded, step, finish}
 use Rattle.expr_grammar.proofs.Holes.{hole, clashes, follows}
@@ -18,8 +18,8 @@ opening (InTable ds) = Listing ds
 -- The line may begin in the state.
 pub data Suits : Line → State → Type 0 where
   expression : (n : ℕ) (k : List Frame) → hole k ≤ n → Suits (Level n) (Want k)
-  operand : (f : Form) (k : List Frame) → Suits (grammar.Signed f) (Want k)
-  lone : (f : Form) → Suits (grammar.Signed f) (Signed OfLine)
+  operand : (f : LiteralForm) (k : List Frame) → Suits (grammar.Signed f) (Want k)
+  lone : (f : LiteralForm) → Suits (grammar.Signed f) (Signed OfLine)
   int_value : (r : Room) → Suits (grammar.Signed an_int) (Signed (OfValue r))
   point_value : (r : Room) → Suits (grammar.Signed a_point) (Signed (OfValue r))
   int_new : (r : Room) → Suits (grammar.Signed an_int) (Signed (OfNew r))
@@ -30,7 +30,7 @@ pub data Suits : Line → State → Type 0 where
   the_items : (ds : List Decimal) → Suits Bigs (Listing ds)
 
 -- the state after a text of the line that stands for this
-abbrev pub after : State → Meaning → State
+abbrev pub after : State → LineMeaning → State
 after (Want k) (tree x) = Have x k
 after (Want k) (literal l) = Have (leaf l) k
 after (Moding r s k) (mode m) = moded r s k m
@@ -82,12 +82,12 @@ pub data Handles : (List Token → Bool) → Line → ℕ → List Item → Stat
   scale : {c : List Token → Bool} {l : Line} {m n : ℕ} {p : grammar.Scaling} {more : List Item} {s f : State}
       (r : State) → m ≤ level_of s → wants s ≡ Some p → step s (Literal (int n)) ≡ Some r → Handles never l m more r f
       → Handles c l m (Scale p n ∷ more) s f
-  last : {c : List Token → Bool} {l inner : Line} {m : ℕ} {g : Guard} {x : Meaning} {s f : State}
+  last : {c : List Token → Bool} {l inner : Line} {m : ℕ} {g : Guard} {x : LineMeaning} {s f : State}
       → Suits inner s → m ≤ level_of s → Clear c g s → Follows inner l (after s x) f → level_of f ≤ level_of s
       → Handles c l m (Part g inner x ∷ []) s f
-  then_is : {c : List Token → Bool} {l inner : Line} {m : ℕ} {g : Guard} {x : Meaning} {t : Token} {more : List Item} {s f : State}
+  then_is : {c : List Token → Bool} {l inner : Line} {m : ℕ} {g : Guard} {x : LineMeaning} {t : Token} {more : List Item} {s f : State}
       (r : State) → Suits inner s → m ≤ level_of s → Clear c g s → follows inner t ≡ true → step (after s x) t ≡ Some r
       → Handles never l m more r f → Handles c l m (Part g inner x ∷ Is t ∷ more) s f
-  then_opens : {c : List Token → Bool} {l inner : Line} {m : ℕ} {g : Guard} {x : Meaning} {t : Token} {more : List Item} {s f : State}
+  then_opens : {c : List Token → Bool} {l inner : Line} {m : ℕ} {g : Guard} {x : LineMeaning} {t : Token} {more : List Item} {s f : State}
       (r : State) → Suits inner s → m ≤ level_of s → Clear c g s → follows inner t ≡ true → step (after s x) t ≡ Some r
       → Handles never l (suc m) more r f → Handles c l m (Part g inner x ∷ Opens t ∷ more) s f

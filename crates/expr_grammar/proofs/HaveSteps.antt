@@ -9,9 +9,9 @@ use Rattle.pap_tree.specs.Words.{level_of_operator}
 use Rattle.pap_tree.specs.Tokens as tokens
 use Rattle.pap_tree.specs.Tokens.{Sign, Token, Word, Operator, Mark, Question, Colon, Dot, Comma, Semicolon, Close, OpenItem, CloseItem}
 use Rattle.pap_tree.specs.Grammar as grammar
-use Rattle.pap_tree.specs.Grammar.{Item, free, no_point, Line, Level, Assignment, Meaning, tree, assignment, at, sign}
+use Rattle.pap_tree.specs.Grammar.{Item, free, no_point, Line, Level, Assignment, LineMeaning, tree, assignment, at, sign}
 use Rattle.pap_tree.specs.Texts as texts
-use Rattle.pap_tree.specs.Texts.{Text}
+use Rattle.pap_tree.specs.Texts.{Derives}
 use Rattle.pap_tree.specs.Fronts as fronts
 use Rattle.expr_grammar.specs.Machine.{Frame, InBrackets, InCall, InItem, InValue, InNew, Negating, Denying, Left, Chosen, Otherwise, Assigning, rounding, dividing, valuing, State, Want, Have, Named, Member, ScaleDue, Done, close, ended, ended_in, step, finish, whole_of}
 use Rattle.expr_grammar.proofs.Holes.{hole}
@@ -28,16 +28,16 @@ use Rattle.expr_grammar.proofs.WantSteps.{moved, have_of, have_closed}
 -- ---- the end of what a frame waits for
 
 -- the expression is taken by the frame's way
-took : (line : Line) (f : Frame) (k : List Frame) (l : Line) (x : Term) (more : List Item) (z : Meaning) (a : List Token) → (r : IsRead line (f ∷ k) 0 x a)
+took : (line : Line) (f : Frame) (k : List Frame) (l : Line) (x : Term) (more : List Item) (z : LineMeaning) (a : List Token) → (r : IsRead line (f ∷ k) 0 x a)
     → Pending (λ p. Stack line k p) k l (at 0 x ∷ more) 1 z r.before → Pending (λ p. Stack line k p) k l more 1 z a
 took line f k l x more z a r p = taken_part (λ p. Stack line k p) k (f ∷ k) l free 0 0 x more 1 z (λ p. Stack line (f ∷ k) p) a r (omega arith) p refl
 
 assigned : (line : Line) (w : List ℕ) (k : List Frame) (x : Term) (a b : List Token) → IsRead line (Assigning w ∷ k) 0 x a
-    → (IsTrue (is_name w) → (c : List Token) → Text (Level 0) c (tree x) → Text Assignment (Word w ∷ Mark tokens.Equals ∷ (c ++ b)) (assignment w x)) → Text line (a ++ b) (assignment w x)
+    → (IsTrue (is_name w) → (c : List Token) → Derives (Level 0) c (tree x) → Derives Assignment (Word w ∷ Mark tokens.Equals ∷ (c ++ b)) (assignment w x)) → Derives line (a ++ b) (assignment w x)
 assigned line w k x a b r text =
     let (e, d, name, f) = r.context in
     let g : a ++ b ≡ Word w ∷ Mark tokens.Equals ∷ (r.own ++ b) = further a r.before r.own b r.whole ∙ ap (λ p. p ++ (r.own ++ b)) f in
-    subst (λ l. Text l (a ++ b) (assignment w x)) (sym e) (subst (λ c. Text Assignment c (assignment w x)) (sym g) (text name r.own r.text))
+    subst (λ l. Derives l (a ++ b) (assignment w x)) (sym e) (subst (λ c. Derives Assignment c (assignment w x)) (sym g) (text name r.own r.text))
 
 ended_steps : (line : Line) (f : Frame) (k : List Frame) (t : Sign) (x : Term) (r : State) (a : List Token) → IsRead line (f ∷ k) 0 x a → ended f t x k ≡ Some r
     → Spelled line r (a ++ (Mark t ∷ []))
@@ -126,19 +126,19 @@ named_steps line w k t r a (p, s, h, f) e = have_steps line (leaf (named w)) k t
 
 -- ---- the end of the line
 
-whole_text : (line : Line) (j : List Frame) (x : Term) (y : Meaning) (a : List Token) → IsRead line j 0 x a → whole_of x j ≡ Some y → Text line a y
+whole_text : (line : Line) (j : List Frame) (x : Term) (y : LineMeaning) (a : List Token) → IsRead line j 0 x a → whole_of x j ≡ Some y → Derives line a y
 whole_text line [] x y a c e =
     let f : tree x ≡ y = cc in
     let g : a ≡ c.own = c.whole ∙ ap (λ p. p ++ c.own) c.context.1 in
-    subst (λ l. Text l a y) (sym c.context.0) (subst (λ b. Text (Level 0) b y) (sym g) (subst (λ y. Text (Level 0) c.own y) f c.text))
+    subst (λ l. Derives l a y) (sym c.context.0) (subst (λ b. Derives (Level 0) b y) (sym g) (subst (λ y. Derives (Level 0) c.own y) f c.text))
 whole_text line (Assigning w ∷ k) x y a c e =
     let f : assignment w x ≡ y = cc in
     let g = assigned line w k x a [] c (λ name b h. texts.by _ (grammar.assign w x name) (texts.is (texts.is (texts.part refl h texts.done)))) in
-    subst (λ y. Text line a y) f (subst (λ b. Text line b (assignment w x)) (append-nil a) g)
+    subst (λ y. Derives line a y) f (subst (λ b. Derives line b (assignment w x)) (append-nil a) g)
 whole_text line (f ∷ k) x y a c e = absurd cc
 
-pub have_text : (line : Line) (x : Term) (k : List Frame) (y : Meaning) (a : List Token) → IsRead line k 8 x a → finish (Have x k) ≡ Some y → Text line a y
+pub have_text : (line : Line) (x : Term) (k : List Frame) (y : LineMeaning) (a : List Token) → IsRead line k 8 x a → finish (Have x k) ≡ Some y → Derives line a y
 have_text line x k y a s e = whole_text line (close 0 x k).1 (close 0 x k).0 y a (low line x k a s) e
 
-pub named_text : (line : Line) (w : List ℕ) (k : List Frame) (y : Meaning) (a : List Token) → Spelled line (Named w k) a → finish (Named w k) ≡ Some y → Text line a y
+pub named_text : (line : Line) (w : List ℕ) (k : List Frame) (y : LineMeaning) (a : List Token) → Spelled line (Named w k) a → finish (Named w k) ≡ Some y → Derives line a y
 named_text line w k y a (p, s, h, f) e = have_text line (leaf (named w)) k y a (named_have line w k p a s h f) e

@@ -9,9 +9,9 @@ use Rattle.pap_tree.specs.Term.{Leaf, Term, leaf, item, one, two, choice}
 use Rattle.pap_tree.specs.Tokens as tokens
 use Rattle.pap_tree.specs.Tokens.{Number, Token, Literal, Quoted, greatest_int, greatest_long, Spot, plain, Tokens, IsFirst}
 use Rattle.pap_tree.specs.Grammar as grammar
-use Rattle.pap_tree.specs.Grammar.{Item, Is, Opens, Scale, Part, Line, Meaning, tree, literal, assignment, Way, leaf_of, negative_of}
+use Rattle.pap_tree.specs.Grammar.{Item, Is, Opens, Scale, Part, Line, LineMeaning, tree, literal, assignment, Way, leaf_of, negative_of}
 use Rattle.pap_tree.specs.Texts as texts
-use Rattle.pap_tree.specs.Texts.{Text, Texts}
+use Rattle.pap_tree.specs.Texts.{Derives, Texts}
 use Rattle.pap_tree.specs.Scales.{OneKeepsScale, TwoKeepsScale}
 
 abbrev pub IsHeldLeaf : Leaf → Type 0
@@ -29,7 +29,7 @@ IsHeld (one op a) = OneKeepsScale op × IsHeld a
 IsHeld (two op a b) = TwoKeepsScale op × IsHeld a × IsHeld b
 IsHeld (choice c a b) = IsHeld c × IsHeld a × IsHeld b
 
-abbrev IsHeldMeaning : Meaning → Type 0
+abbrev IsHeldMeaning : LineMeaning → Type 0
 IsHeldMeaning (tree x) = IsHeld x
 IsHeldMeaning (literal l) = IsHeldLeaf l
 IsHeldMeaning (assignment w x) = IsHeld x
@@ -82,7 +82,7 @@ minus_held (tokens.long zero) h = h
 minus_held (tokens.long (suc n)) h = h
 minus_held (tokens.point d) h = (h.0, minus_size (numerator_of d) (scale_of d) h.1)
 
-way_held : {l : Line} {way : List Item} {x : Meaning} → Way l way x → AllHeld way → IsHeldMeaning x
+way_held : {l : Line} {way : List Item} {x : LineMeaning} → Way l way x → AllHeld way → IsHeldMeaning x
 way_held (grammar.choose c a b) h = (h.0, h.1.0, h.1.1.1.0)
 way_held (grammar.tighter n x e) h = h.0
 way_held (grammar.operation n o x y e) h = (tt, h.0, h.1.1.0)
@@ -108,7 +108,7 @@ way_held (grammar.assign_ended w x e) h = h.1.1.0
 way_held w h = tt
 
 mutual
-  pub held : {l : Line} {ts : List Token} {x : Meaning} → Text l ts x → AllTokens ts → IsHeldMeaning x
+  pub held : {l : Line} {ts : List Token} {x : LineMeaning} → Derives l ts x → AllTokens ts → IsHeldMeaning x
   held (texts.by way w h) p = way_held w (all_held h p)
 
   all_held : {way : List Item} {ts : List Token} → Texts way ts → AllTokens ts → AllHeld way
@@ -132,8 +132,8 @@ spots_held : (at : ℕ) (bytes : List ℕ) (ts : List Spot) → Tokens at bytes 
 spots_held at bytes [] h = tt
 spots_held at bytes (t ∷ ts) (white, text, rest, a, b, first, c, more) = (first_held text rest t.token first, spots_held (at + length white + length text) rest ts more)
 
-pub tree_held : (l : Line) (bytes : List ℕ) (spots : List Spot) (x : Term) → Tokens 0 bytes spots → Text l (plain spots) (tree x) → IsHeld x
+pub tree_held : (l : Line) (bytes : List ℕ) (spots : List Spot) (x : Term) → Tokens 0 bytes spots → Derives l (plain spots) (tree x) → IsHeld x
 tree_held l bytes spots x h t = held t (spots_held 0 bytes spots h)
 
-pub right_held : (bytes : List ℕ) (spots : List Spot) (w : List ℕ) (x : Term) → Tokens 0 bytes spots → Text grammar.Assignment (plain spots) (assignment w x) → IsHeld x
+pub right_held : (bytes : List ℕ) (spots : List Spot) (w : List ℕ) (x : Term) → Tokens 0 bytes spots → Derives grammar.Assignment (plain spots) (assignment w x) → IsHeld x
 right_held bytes spots w x h t = held t (spots_held 0 bytes spots h)

@@ -6,18 +6,18 @@ use Rattle.pap_tree.specs.Tokens.{Token}
 use Rattle.pap_tree.specs.Grammar as grammar
 use Rattle.pap_tree.specs.Grammar.{Item, Level, tree}
 use Rattle.pap_tree.specs.Texts as texts
-use Rattle.pap_tree.specs.Texts.{Text}
+use Rattle.pap_tree.specs.Texts.{Derives}
 use Rattle.pap_tree.specs.Fronts as fronts
 use Rattle.pap_tree.specs.Fronts.{Front}
 
-text_down : (d m n : ℕ) (a : List Token) (x : Term) → n + d ≡ m → m ≤ 9 → Text (Level m) a (tree x) → Text (Level n) a (tree x)
-text_down zero m n a x e le t = let f : m ≡ n = omega (arith, e) in subst (λ k. Text (Level k) a (tree x)) f t
+text_down : (d m n : ℕ) (a : List Token) (x : Term) → n + d ≡ m → m ≤ 9 → Derives (Level m) a (tree x) → Derives (Level n) a (tree x)
+text_down zero m n a x e le t = let f : m ≡ n = omega (arith, e) in subst (λ k. Derives (Level k) a (tree x)) f t
 text_down (suc d) m n a x e le t =
     let f : suc n + d ≡ m = omega (arith, e) in
-    subst (λ a. Text (Level n) a (tree x)) (append-nil a)
+    subst (λ a. Derives (Level n) a (tree x)) (append-nil a)
     (texts.by _ (grammar.tighter n x (omega (arith, e, le))) (texts.part refl (text_down d m (suc n) a x f le t) texts.done))
 
-pub looser : (m n : ℕ) (a : List Token) (x : Term) → n ≤ m → m ≤ 9 → Text (Level m) a (tree x) → Text (Level n) a (tree x)
+pub looser : (m n : ℕ) (a : List Token) (x : Term) → n ≤ m → m ≤ 9 → Derives (Level m) a (tree x) → Derives (Level n) a (tree x)
 looser m n a x h le t = text_down (m - n) m n a x (omega (arith, h)) le t
 
 -- any expression at all: a front doesn't tell what its open parts stand for

@@ -5,9 +5,9 @@ use Rattle.scaled_decimal.specs.Decimals.{Decimal, scale_of}
 use Rattle.pap_tree.specs.Tokens as tokens
 use Rattle.pap_tree.specs.Tokens.{Number, Token, Literal, Spot, plain, Tokens, IsFirst}
 use Rattle.pap_tree.specs.Grammar as grammar
-use Rattle.pap_tree.specs.Grammar.{Item, Is, Opens, Scale, Part, Line, Meaning, Way, leaf_of, negative_of}
+use Rattle.pap_tree.specs.Grammar.{Item, Is, Opens, Scale, Part, Line, LineMeaning, Way, leaf_of, negative_of}
 use Rattle.pap_tree.specs.Texts as texts
-use Rattle.pap_tree.specs.Texts.{Text, Texts}
+use Rattle.pap_tree.specs.Texts.{Derives, Texts}
 use Rattle.pap_tree.specs.Expressions.{IsText}
 use Rattle.pap_tree.specs.Scales.{HasPlaces}
 use Rattle.expr_grammar.specs.Trees.{IsKeeping, ArePlaced}
@@ -57,7 +57,7 @@ minus_place (tokens.int n) h = tt
 minus_place (tokens.long n) h = tt
 minus_place (tokens.point d) h = h
 
-way_keeps : {l : Line} {way : List Item} {x : Meaning} → Way l way x → AllKeep way → IsKeeping x
+way_keeps : {l : Line} {way : List Item} {x : LineMeaning} → Way l way x → AllKeep way → IsKeeping x
 way_keeps (grammar.choose c a b) h = (h.0, h.1.0, h.1.1.1.0)
 way_keeps (grammar.tighter n x e) h = h.0
 way_keeps (grammar.operation n o x y e) h = (tt, h.0, h.1.1.0)
@@ -84,7 +84,7 @@ way_keeps (grammar.number_constant f l) h = h.0
 way_keeps w h = tt
 
 mutual
-  pub keeps : {l : Line} {ts : List Token} {x : Meaning} → Text l ts x → ArePlaced ts → IsKeeping x
+  pub keeps : {l : Line} {ts : List Token} {x : LineMeaning} → Derives l ts x → ArePlaced ts → IsKeeping x
   keeps (texts.by way w h) p = way_keeps w (all_keep h p)
 
   all_keep : {way : List Item} {ts : List Token} → Texts way ts → ArePlaced ts → AllKeep way
@@ -109,5 +109,5 @@ spelled_places at bytes [] h = tt
 spelled_places at bytes (t ∷ ts) (white, text, rest, a, b, first, c, more) =
     placed_cons t.token (plain ts) (spelled_place text rest t.token first) (spelled_places (at + length white + length text) rest ts more)
 
-pub bytes_keep : (l : Line) (bytes : List ℕ) (x : Meaning) → IsText l bytes x → IsKeeping x
+pub bytes_keep : (l : Line) (bytes : List ℕ) (x : LineMeaning) → IsText l bytes x → IsKeeping x
 bytes_keep l bytes x h = keeps h.text (spelled_places 0 bytes h.spots h.tokens)

@@ -5,10 +5,10 @@ use Rattle.pap_tree.specs.Names.{is_name}
 use Rattle.pap_tree.specs.Term.{Leaf, named, Term, leaf, item, one, two, choice}
 use Rattle.pap_tree.specs.Tokens.{Token}
 use Rattle.pap_tree.specs.Grammar as grammar
-use Rattle.pap_tree.specs.Grammar.{Item, Part, Line, Meaning, tree, literal, assignment, Way, leaf_of, negative_of}
+use Rattle.pap_tree.specs.Grammar.{Item, Part, Line, LineMeaning, tree, literal, assignment, Way, leaf_of, negative_of}
 use Rattle.pap_tree.specs.Tokens as tokens
 use Rattle.pap_tree.specs.Texts as texts
-use Rattle.pap_tree.specs.Texts.{Text, Texts}
+use Rattle.pap_tree.specs.Texts.{Derives, Texts}
 use Rattle.pap_tree.specs.Scales.{OneKeepsScale, TwoKeepsScale}
 
 abbrev pub IsNamed : Leaf → Type 0
@@ -22,7 +22,7 @@ IsRanged (one op a) = OneKeepsScale op × IsRanged a
 IsRanged (two op a b) = TwoKeepsScale op × IsRanged a × IsRanged b
 IsRanged (choice c a b) = IsRanged c × IsRanged a × IsRanged b
 
-abbrev IsRangedMeaning : Meaning → Type 0
+abbrev IsRangedMeaning : LineMeaning → Type 0
 IsRangedMeaning (tree x) = IsRanged x
 IsRangedMeaning (literal l) = IsNamed l
 IsRangedMeaning (assignment x e) = IsRanged e
@@ -43,7 +43,7 @@ minus_named (tokens.int n) = tt
 minus_named (tokens.long n) = tt
 minus_named (tokens.point d) = tt
 
-way_ranged : {l : Line} {way : List Item} {x : Meaning} → Way l way x → AllRanged way → IsRangedMeaning x
+way_ranged : {l : Line} {way : List Item} {x : LineMeaning} → Way l way x → AllRanged way → IsRangedMeaning x
 way_ranged (grammar.choose c a b) h = (h.0, h.1.0, h.1.1.0)
 way_ranged (grammar.tighter n x e) h = h.0
 way_ranged (grammar.operation n o x y e) h = (tt, h.0, h.1.0)
@@ -69,7 +69,7 @@ way_ranged (grammar.assign_ended x y e) h = h.0
 way_ranged w h = tt
 
 mutual
-  pub ranged : {l : Line} {ts : List Token} {x : Meaning} → Text l ts x → IsRangedMeaning x
+  pub ranged : {l : Line} {ts : List Token} {x : LineMeaning} → Derives l ts x → IsRangedMeaning x
   ranged (texts.by way w h) = way_ranged w (all_ranged h)
 
   all_ranged : {way : List Item} {ts : List Token} → Texts way ts → AllRanged way
@@ -79,5 +79,5 @@ mutual
   all_ranged (texts.scale h) = all_ranged h
   all_ranged (texts.part e t h) = (ranged t, all_ranged h)
 
-pub tree_ranged : (l : Line) (ts : List Token) (x : Term) → Text l ts (tree x) → IsRanged x
+pub tree_ranged : (l : Line) (ts : List Token) (x : Term) → Derives l ts (tree x) → IsRanged x
 tree_ranged l ts x h = ranged h

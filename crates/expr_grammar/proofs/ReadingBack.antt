@@ -7,7 +7,7 @@ use Rattle.pap_tree.specs.Tokens.{Token, plain}
 use Rattle.pap_tree.specs.Grammar as grammar
 use Rattle.pap_tree.specs.Grammar.{Item, Level, Assignment, tree, assignment, Way}
 use Rattle.pap_tree.specs.Texts as texts
-use Rattle.pap_tree.specs.Texts.{Text, Texts}
+use Rattle.pap_tree.specs.Texts.{Derives, Texts}
 use Rattle.pap_tree.specs.Expressions.{IsTest}
 use Rattle.expr_grammar.specs.SpelledTokens.{spelled_tokens}
 use Rattle.expr_grammar.proofs.Ranges.{tree_ranged}
@@ -24,7 +24,7 @@ use Rattle.expr_grammar.proofs.Trees.{good}
 
 record IsSpelled (x : Term) : Type 0 where
   held : IsHeld x
-  text : Text (Level 0) (spelled_tokens x) (tree x)
+  text : Derives (Level 0) (spelled_tokens x) (tree x)
 
 -- so are its operands
 spelled_down : GoesDown IsSpelled
@@ -46,11 +46,11 @@ spelled_down = record {
       );
 }
 
-right_text : {way : List Item} {ts : List Token} {w : List ℕ} {x : Term} → Way Assignment way (assignment w x) → Texts way ts → Text (Level 0) (spelled_tokens x) (tree x)
+right_text : {way : List Item} {ts : List Token} {w : List ℕ} {x : Term} → Way Assignment way (assignment w x) → Texts way ts → Derives (Level 0) (spelled_tokens x) (tree x)
 right_text (grammar.assign w x e) (texts.is (texts.is (texts.part {a} f t h))) = spelling_text x (tree_ranged (Level 0) a x t)
 right_text (grammar.assign_ended w x e) (texts.is (texts.is (texts.part {a} f t h))) = spelling_text x (tree_ranged (Level 0) a x t)
 
-right_side : (ts : List Token) (w : List ℕ) (x : Term) → Text Assignment ts (assignment w x) → Text (Level 0) (spelled_tokens x) (tree x)
+right_side : (ts : List Token) (w : List ℕ) (x : Term) → Derives Assignment ts (assignment w x) → Derives (Level 0) (spelled_tokens x) (tree x)
 right_side ts w x h = elim h [ texts.by way v us ↦ right_text v us ]
 
 spelled : (x : Term) → IsInText x → IsSpelled x
@@ -77,5 +77,5 @@ reads_back x h =
     record {
       spots = l.0;
       tokens = l.1;
-      text = subst (λ ts. Text (Level 0) ts (tree x)) (sym l.2) s.text;
+      text = subst (λ ts. Derives (Level 0) ts (tree x)) (sym l.2) s.text;
     }

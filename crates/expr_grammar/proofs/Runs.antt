@@ -10,7 +10,7 @@ use Rattle.pap_tree.specs.Limits.{most_levels}
 use Rattle.pap_tree.specs.Stopping.{deep, has_limits}
 use Rattle.expr_grammar.specs.Machine.{Frame, State, Have, Named, binds, made, level_of, step}
 use Rattle.expr_grammar.proofs.Holes.{follows}
-use Rattle.expr_grammar.specs.Run.{Refusal, refusal, cause_of, or_refusal, is_over, next, run}
+use Rattle.expr_grammar.specs.Run.{Refusal, refusal_at, cause_of, or_refusal, is_over, next, run}
 use Rattle.expr_grammar.proofs.Closing.{taking, taking_last}
 
 -- ---- one step
@@ -31,14 +31,14 @@ over l s h lt = ap (λ b. b && nat_lt most_levels (level_of s)) h ∙ lt-ltb mos
 
 pub stepped : (l : Line) (f : Refusal) (s r : State) (t : Spot) (ts : List Spot) → step s t.token ≡ Some r → is_over l r ≡ false → run l f s (t ∷ ts) ≡ run l f r ts
 stepped l f s r t ts e o =
-    ap (λ o. next l t (refusal (cause_of s t.token) t.at) o (λ r. run l f r ts)) e ∙ ap (λ c. cond c (Err (refusal deep t.at)) (run l f r ts)) o
+    ap (λ o. next l t (refusal_at (cause_of s t.token) t.at) o (λ r. run l f r ts)) e ∙ ap (λ c. cond c (Err (refusal_at deep t.at)) (run l f r ts)) o
 
-pub stuck : (l : Line) (f : Refusal) (s : State) (t : Spot) (ts : List Spot) → step s t.token ≡ None → run l f s (t ∷ ts) ≡ Err (refusal (cause_of s t.token) t.at)
-stuck l f s t ts e = ap (λ o. next l t (refusal (cause_of s t.token) t.at) o (λ r. run l f r ts)) e
+pub stuck : (l : Line) (f : Refusal) (s : State) (t : Spot) (ts : List Spot) → step s t.token ≡ None → run l f s (t ∷ ts) ≡ Err (refusal_at (cause_of s t.token) t.at)
+stuck l f s t ts e = ap (λ o. next l t (refusal_at (cause_of s t.token) t.at) o (λ r. run l f r ts)) e
 
-pub too_deep : (l : Line) (f : Refusal) (s r : State) (t : Spot) (ts : List Spot) → step s t.token ≡ Some r → is_over l r ≡ true → run l f s (t ∷ ts) ≡ Err (refusal deep t.at)
+pub too_deep : (l : Line) (f : Refusal) (s r : State) (t : Spot) (ts : List Spot) → step s t.token ≡ Some r → is_over l r ≡ true → run l f s (t ∷ ts) ≡ Err (refusal_at deep t.at)
 too_deep l f s r t ts e o =
-    ap (λ o. next l t (refusal (cause_of s t.token) t.at) o (λ r. run l f r ts)) e ∙ ap (λ c. cond c (Err (refusal deep t.at)) (run l f r ts)) o
+    ap (λ o. next l t (refusal_at (cause_of s t.token) t.at) o (λ r. run l f r ts)) e ∙ ap (λ c. cond c (Err (refusal_at deep t.at)) (run l f r ts)) o
 
 -- ---- what follows an expression
 
@@ -50,7 +50,7 @@ Rests l (t ∷ ts) = follows l t.token ≡ true
 -- two states that step alike, with like causes, run alike
 pub alike : (l : Line) (f : Refusal) (s r : State) (t : Spot) (ts : List Spot) → step s t.token ≡ step r t.token → cause_of s t.token ≡ cause_of r t.token → run l f s (t ∷ ts) ≡ run l f r (t ∷ ts)
 alike l f s r t ts e g =
-    ap (λ o. next l t (refusal (cause_of s t.token) t.at) o (λ r. run l f r ts)) e ∙ ap (λ c. next l t (refusal c t.at) (step r t.token) (λ r. run l f r ts)) g
+    ap (λ o. next l t (refusal_at (cause_of s t.token) t.at) o (λ r. run l f r ts)) e ∙ ap (λ c. next l t (refusal_at c t.at) (step r t.token) (λ r. run l f r ts)) g
 
 have_cause : (x y : Term) (k j : List Frame) (t : Token) → cause_of (Have x k) t ≡ cause_of (Have y j) t
 have_cause x y k j (Literal (tokens.point d)) = refl

@@ -4,9 +4,9 @@ use Rattle.std.specs.Prelude.{IsTrue}
 use Rattle.std.proofs.lemmas.List.{length-append}
 use Rattle.pap_tree.specs.Tokens.{Token}
 use Rattle.pap_tree.specs.Grammar as grammar
-use Rattle.pap_tree.specs.Grammar.{Item, Is, Opens, Scale, Part, Line, Meaning, Way}
+use Rattle.pap_tree.specs.Grammar.{Item, Is, Opens, Scale, Part, Line, LineMeaning, Way}
 use Rattle.pap_tree.specs.Texts as texts
-use Rattle.pap_tree.specs.Texts.{Text, Texts}
+use Rattle.pap_tree.specs.Texts.{Derives, Texts}
 use Rattle.pap_tree.specs.Stopping.{IsRead, has_limits}
 use Rattle.expr_grammar.specs.Trees.{size}
 
@@ -17,12 +17,12 @@ total (Opens t ∷ more) = 1 + total more
 total (Scale p s ∷ more) = 1 + total more
 total (Part g l x ∷ more) = size x + total more
 
-within : {l : Line} {way : List Item} {x : Meaning} → Way l way x → size x ≤ total way
+within : {l : Line} {way : List Item} {x : LineMeaning} → Way l way x → size x ≤ total way
 within (grammar.choose c a b) = omega arith
 within _ = omega arith
 
 mutual
-  pub sized : {l : Line} {ts : List Token} {x : Meaning} → Text l ts x → size x ≤ length ts
+  pub sized : {l : Line} {ts : List Token} {x : LineMeaning} → Derives l ts x → size x ≤ length ts
   sized (texts.by way w h) = let a = within w in let b = sizes h in omega (arith, a, b)
 
   sizes : {way : List Item} {ts : List Token} → Texts way ts → total way ≤ length ts
@@ -51,5 +51,5 @@ few l ts limits h = elim (longer 1000 ts) as (λ z. length ts ≤ 1000) [
   | inr f ↦ absurd (h f.0 f.2 f.1 f.3 (inl (limits, inl (let e = f.4 in omega (arith, e)))))
 ]
 
-pub bounded : (l : Line) (ts : List Token) (x : Meaning) → IsTrue (has_limits l) → Text l ts x → IsRead l ts → size x ≤ 1000
+pub bounded : (l : Line) (ts : List Token) (x : LineMeaning) → IsTrue (has_limits l) → Derives l ts x → IsRead l ts → size x ≤ 1000
 bounded l ts x limits t h = let a = sized t in let b = few l ts limits h in omega (arith, a, b)

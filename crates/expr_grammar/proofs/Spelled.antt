@@ -12,7 +12,7 @@ use Rattle.pap_tree.specs.Declarations.{big, table}
 use Rattle.pap_tree.specs.Tokens.{Token, Literal, Word, Operator, Mark, Dot, Comma, Open, Close, CloseTable, int}
 use Rattle.pap_tree.specs.Grammar as grammar
 use Rattle.pap_tree.specs.Grammar.{Item, Scale, of_value, of_quotient, of_setting, Line, Level, Assignment, Constant, Big, Bigs, tree, declared, decimals, sign, rounding}
-use Rattle.pap_tree.specs.Texts.{Text}
+use Rattle.pap_tree.specs.Texts.{Derives}
 use Rattle.pap_tree.specs.Fronts.{Front}
 use Rattle.pap_tree.specs.Stopping.{WantsScale, new_big_decimal}
 use Rattle.expr_grammar.specs.Machine.{Frame, Rounded, dividing, setting, Room, Alone, InTable, valuing, declaring, Slot, OfLine, OfValue, OfNew, holder_word, State, Want, Have, Named, Due, Member, Static, ScaleDue, Parting, Moding, Moded, Naming, Signed, Minus, ValuedInt, ValuedPoint, Settling, Listing, Listed, Done, rounded}
@@ -25,14 +25,14 @@ use Rattle.expr_grammar.proofs.Closed.{IsRead}
 pub record IsTabled (whole : Line) (ds : List Decimal) (a : List Token) : Type 0 where
   pub line : whole ≡ Constant
   pub fronts : (b : List Token) (n : ℕ) (i : Option Item) → Front Bigs b n i → Front Constant (a ++ b) n i
-  pub texts : (b : List Token) (es : List Decimal) → Text Bigs b (decimals es) → Text Constant (a ++ (b ++ (Mark CloseTable ∷ []))) (declared (table (ds ++ es)))
+  pub texts : (b : List Token) (es : List Decimal) → Derives Bigs b (decimals es) → Derives Constant (a ++ (b ++ (Mark CloseTable ∷ []))) (declared (table (ds ++ es)))
 
 -- a table with these decimals was read, up to the last of them
 pub record IsListed (whole : Line) (ds : List Decimal) (a : List Token) : Type 0 where
   pub line : whole ≡ Constant
   pub next : Option Item
   pub front : Front Constant a 0 next
-  pub text : Text Constant (a ++ (Mark CloseTable ∷ [])) (declared (table ds))
+  pub text : Derives Constant (a ++ (Mark CloseTable ∷ [])) (declared (table ds))
   pub more : IsTabled whole ds (a ++ (Mark Comma ∷ []))
 
 -- before a decimal of a constant these tokens were read
@@ -105,4 +105,4 @@ Spelled whole (ValuedPoint d r) a = ((i : Option Item) × Front whole a 1 i) × 
 Spelled whole (Settling r) a = (p : List Token) × Place whole r p × (a ≡ p ++ class_tokens)
 Spelled whole (Listing ds) a = IsTabled whole ds a
 Spelled whole (Listed ds) a = IsListed whole ds a
-Spelled whole (Done x) a = Text whole a x
+Spelled whole (Done x) a = Derives whole a x

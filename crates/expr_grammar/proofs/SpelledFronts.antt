@@ -14,7 +14,7 @@ use Rattle.pap_tree.specs.Tokens.{Token, Word, Operator, Mark, Dot}
 use Rattle.pap_tree.specs.Grammar as grammar
 use Rattle.pap_tree.specs.Grammar.{Item, Is, Scale, free, Line, Level, Assignment, Constant, Big, tree, declared, rounding, sign, word}
 use Rattle.pap_tree.specs.Texts as texts
-use Rattle.pap_tree.specs.Texts.{Text}
+use Rattle.pap_tree.specs.Texts.{Derives}
 use Rattle.pap_tree.specs.Names.{is_name}
 use Rattle.pap_tree.specs.declared.expression.Call.TheVariants as calls
 use Rattle.pap_tree.specs.Stopping.{new_big_decimal}
@@ -22,7 +22,7 @@ use Rattle.std.specs.Prelude.{IsTrue, codes}
 use Rattle.pap_tree.specs.Fronts as fronts
 use Rattle.pap_tree.specs.Fronts.{Front}
 use Rattle.expr_grammar.specs.Machine as machine
-use Rattle.expr_grammar.specs.Machine.{Frame, Room, Alone, InTable, Job, valuing, declaring, Slot, OfLine, OfValue, OfNew, Holder, the_decimal, the_mode, holder_word, State, Want, Have, Named, Due, Member, Static, ScaleDue, Parting, Moding, Moded, Naming, Signed, Minus, ValuedInt, ValuedPoint, Settling, Listing, Listed, Done, level, level_of, level_of_job, level_of_slot}
+use Rattle.expr_grammar.specs.Machine.{Frame, Room, Alone, InTable, ScaleUse, valuing, declaring, Slot, OfLine, OfValue, OfNew, Holder, the_decimal, the_mode, holder_word, State, Want, Have, Named, Due, Member, Static, ScaleDue, Parting, Moding, Moded, Naming, Signed, Minus, ValuedInt, ValuedPoint, Settling, Listing, Listed, Done, level, level_of, level_of_job, level_of_slot}
 use Rattle.expr_grammar.proofs.Holes.{hole, clashes}
 use Rattle.expr_grammar.proofs.Begins.{word_clear, empty_clear}
 use Rattle.expr_grammar.proofs.Closing.{operator_high}
@@ -74,11 +74,11 @@ plug_big line (InTable ds) = λ p b n i s f cl.
 
 -- ---- the states
 
-pub fresh : (line : Line) (k : List Frame) (x : Term) (p b a : List Token) → Stack line k p → Text (Level 9) b (tree x) → clashes (Want k) b ≡ false → a ≡ p ++ b
+pub fresh : (line : Line) (k : List Frame) (x : Term) (p b a : List Token) → Stack line k p → Derives (Level 9) b (tree x) → clashes (Want k) b ≡ false → a ≡ p ++ b
     → IsRead line k 9 x a
 fresh line k x p b a s t cl e = record { before = p; own = b; context = s; whole = e; fits = ((let h = hole_high k in omega (arith, h)), omega arith); clear = cl; text = t }
 
-pub name_text : (w : List ℕ) → IsTrue (is_name w) → Text (Level 9) (Word w ∷ []) (tree (leaf (named w)))
+pub name_text : (w : List ℕ) → IsTrue (is_name w) → Derives (Level 9) (Word w ∷ []) (tree (leaf (named w)))
 name_text w h = texts.by _ (grammar.a_name w h) (texts.is texts.done)
 
 -- a call's point was read
@@ -117,7 +117,7 @@ of_big_new line r d more p a w s e =
     (λ c n i f. fronts.by _ w (fronts.is (fronts.is (fronts.opens f)))) (λ c f. texts.by _ w (texts.is (texts.is (texts.opens f)))) e
 
 -- the place of a scale
-abbrev pub place_of : Job → grammar.Scaling
+abbrev pub place_of : ScaleUse → grammar.Scaling
 place_of (valuing x k) = grammar.of_value
 place_of (machine.rounding r k) = scaling_of r
 place_of (declaring i r) = grammar.of_value
@@ -126,7 +126,7 @@ none : 0 ≤ most_places
 none = omega arith
 
 -- where a scale is due it comes next
-pub scale_front : (line : Line) (j : Job) (a : List Token) → Spelled line (ScaleDue j) a → Front line a (level_of_job j) (Some (Scale (place_of j) 0))
+pub scale_front : (line : Line) (j : ScaleUse) (a : List Token) → Spelled line (ScaleDue j) a → Front line a (level_of_job j) (Some (Scale (place_of j) 0))
 scale_front line (valuing x k) a s = level_is line a (1 + level k) (suc (level k)) _ (omega arith) (front_here _ k (Level 9) line (level k) _ _ 1 _ a (plug_whole line k) refl (s 0 none))
 scale_front line (machine.rounding r k) a s = level_is line a (1 + level k) (suc (level k)) _ (omega arith) (front_here _ k (Level 8) line (level k) _ _ 1 _ a (plug_call line k) refl (s 0 modes.Up none))
 scale_front line (declaring i r) a s = level_is line a (1 + 0) 1 _ (omega arith) (front_here _ [] Big line 0 _ _ 1 _ a (plug_big line r) refl (s 0 none))
@@ -135,7 +135,7 @@ mode_front : (h : Holder) → Front grammar.Rounding (Word (holder_word h) ∷ M
 mode_front the_decimal = fronts.by _ (grammar.old_mode modes.Up) (fronts.is (fronts.is fronts.here))
 mode_front the_mode = fronts.by _ (grammar.new_mode modes.Up) (fronts.is (fronts.is fronts.here))
 
-minus_front : (f : grammar.Form) (n : tokens.Number) → grammar.form_of n ≡ f → Front (grammar.Signed f) (Operator binaries.Sub ∷ []) 1 (Some (Is (tokens.Literal n)))
+minus_front : (f : grammar.LiteralForm) (n : tokens.Number) → grammar.form_of n ≡ f → Front (grammar.Signed f) (Operator binaries.Sub ∷ []) 1 (Some (Is (tokens.Literal n)))
 minus_front f n e = fronts.by _ (grammar.with_sign f n e) (fronts.opens fronts.here)
 
 lone_front : (line : Line) (a b : List Token) (n : ℕ) (i : Option Item) → (line ≡ Constant) × (a ≡ []) → Front Constant b n i → Front line (a ++ b) n i

@@ -11,13 +11,13 @@ use Rattle.pap_tree.specs.declared.expression.Binary.TheVariants.{Sub}
 use Rattle.pap_tree.specs.Term as terms
 use Rattle.pap_tree.specs.Term.{Leaf, One, unary, value_of, value_of_scaled, new_big, set_scale, Two, operator, method, divide, Term, leaf, item, one, two, choice}
 use Rattle.pap_tree.specs.Words.{level_of_operator, round_word}
-use Rattle.pap_tree.specs.Spelling.{level_of, level_of_one, level_of_two}
+use Rattle.pap_tree.specs.Spelling.{binding_level, level_of_one, level_of_two}
 use Rattle.pap_tree.specs.Tokens as tokens
 use Rattle.pap_tree.specs.Tokens.{Token, Literal, Word, Operator, Mark, Question, Colon, Dot, Open, Close}
 use Rattle.pap_tree.specs.Grammar as grammar
 use Rattle.pap_tree.specs.Grammar.{Level, tree, mode}
 use Rattle.pap_tree.specs.Texts as texts
-use Rattle.pap_tree.specs.Texts.{Text, begins_number, begins_point}
+use Rattle.pap_tree.specs.Texts.{Derives, begins_number, begins_point}
 use Rattle.expr_grammar.specs.SpelledTokens.{bracketed_tokens, tokens_at_level, begins_signed, int_tokens, long_tokens, point_tokens, leaf_tokens, one_tokens, two_tokens, spelled_tokens}
 use Rattle.pap_tree.specs.Scales.{OneKeepsScale, TwoKeepsScale}
 use Rattle.expr_grammar.proofs.Closing.{operator_high}
@@ -38,7 +38,7 @@ two_level (operator o) = let h = operator_high o in omega (arith, h)
 two_level (method c) = omega arith
 two_level (divide s m) = omega arith
 
-tightest : (x : Term) → level_of x ≤ 9
+tightest : (x : Term) → binding_level x ≤ 9
 tightest (leaf l) = omega arith
 tightest (item x a) = omega arith
 tightest (one op a) = one_level op
@@ -47,48 +47,48 @@ tightest (choice c a b) = omega arith
 
 -- its canonical spelling is a text of its own level
 abbrev IsSpelled : Term → Type 0
-IsSpelled x = Text (Level (level_of x)) (spelled_tokens x) (tree x)
+IsSpelled x = Derives (Level (binding_level x)) (spelled_tokens x) (tree x)
 
-in_brackets : (n : ℕ) (x : Term) (a : List Token) → n ≤ 9 → Text (Level 0) a (tree x) → Text (Level n) (Mark Open ∷ (a ++ (Mark Close ∷ []))) (tree x)
+in_brackets : (n : ℕ) (x : Term) (a : List Token) → n ≤ 9 → Derives (Level 0) a (tree x) → Derives (Level n) (Mark Open ∷ (a ++ (Mark Close ∷ []))) (tree x)
 in_brackets n x a h t = looser 9 n (Mark Open ∷ (a ++ (Mark Close ∷ []))) x h (omega arith) (texts.by _ (grammar.in_brackets x) (texts.opens (texts.part refl t (texts.is texts.done))))
 
-outermost : (x : Term) → IsSpelled x → Text (Level 0) (spelled_tokens x) (tree x)
-outermost x t = looser (level_of x) 0 (spelled_tokens x) x (omega arith) (tightest x) t
+outermost : (x : Term) → IsSpelled x → Derives (Level 0) (spelled_tokens x) (tree x)
+outermost x t = looser (binding_level x) 0 (spelled_tokens x) x (omega arith) (tightest x) t
 
-by_brackets : (n : ℕ) (x : Term) (c : Bool) → nat_lt (level_of x) n ≡ c → n ≤ 9 → IsSpelled x → Text (Level n) (bracketed_tokens c (spelled_tokens x)) (tree x)
+by_brackets : (n : ℕ) (x : Term) (c : Bool) → nat_lt (binding_level x) n ≡ c → n ≤ 9 → IsSpelled x → Derives (Level n) (bracketed_tokens c (spelled_tokens x)) (tree x)
 by_brackets n x true e h t = in_brackets n x (spelled_tokens x) h (outermost x t)
-by_brackets n x false e h t = looser (level_of x) n (spelled_tokens x) x (ltb-false (level_of x) n e) (tightest x) t
+by_brackets n x false e h t = looser (binding_level x) n (spelled_tokens x) x (ltb-false (binding_level x) n e) (tightest x) t
 
 -- an operand where the grammar wants a level
-operand : (n : ℕ) (x : Term) → n ≤ 9 → IsSpelled x → Text (Level n) (tokens_at_level n (level_of x) (spelled_tokens x)) (tree x)
-operand n x h t = by_brackets n x (nat_lt (level_of x) n) refl h t
+operand : (n : ℕ) (x : Term) → n ≤ 9 → IsSpelled x → Derives (Level n) (tokens_at_level n (binding_level x) (spelled_tokens x)) (tree x)
+operand n x h t = by_brackets n x (nat_lt (binding_level x) n) refl h t
 
-text_is : (n : ℕ) (a b : List Token) (x : Term) → a ≡ b → Text (Level n) a (tree x) → Text (Level n) b (tree x)
-text_is n a b x e t = subst (λ a. Text (Level n) a (tree x)) e t
+text_is : (n : ℕ) (a b : List Token) (x : Term) → a ≡ b → Derives (Level n) a (tree x) → Derives (Level n) b (tree x)
+text_is n a b x e t = subst (λ a. Derives (Level n) a (tree x)) e t
 
 -- ---- leaves
 
-plain_literal : (n : tokens.Number) → Text (Level 9) (Literal n ∷ []) (tree (leaf (grammar.leaf_of n)))
+plain_literal : (n : tokens.Number) → Derives (Level 9) (Literal n ∷ []) (tree (leaf (grammar.leaf_of n)))
 plain_literal n = texts.by _ (grammar.a_literal (grammar.form_of n) (grammar.leaf_of n)) (texts.part refl (texts.by _ (grammar.without_sign (grammar.form_of n) n refl) (texts.is texts.done)) texts.done)
 
-minus_literal : (n : tokens.Number) (l : Leaf) → grammar.negative_of n ≡ l → Text (Level 9) (Operator Sub ∷ Literal n ∷ []) (tree (leaf l))
+minus_literal : (n : tokens.Number) (l : Leaf) → grammar.negative_of n ≡ l → Derives (Level 9) (Operator Sub ∷ Literal n ∷ []) (tree (leaf l))
 minus_literal n l e =
-    subst (λ l. Text (Level 9) (Operator Sub ∷ Literal n ∷ []) (tree (leaf l))) e
+    subst (λ l. Derives (Level 9) (Operator Sub ∷ Literal n ∷ []) (tree (leaf l))) e
     (texts.by _ (grammar.a_literal (grammar.form_of n) (grammar.negative_of n)) (texts.part refl (texts.by _ (grammar.with_sign (grammar.form_of n) n refl) (texts.opens (texts.is texts.done))) texts.done))
 
-whole_text : (i : ℤ) → Text (Level 9) (int_tokens i) (tree (leaf (terms.whole i)))
+whole_text : (i : ℤ) → Derives (Level 9) (int_tokens i) (tree (leaf (terms.whole i)))
 whole_text (pos n) = plain_literal (tokens.int n)
 whole_text (negsuc n) = minus_literal (tokens.int (suc n)) (terms.whole (negsuc n)) refl
 
-long_text : (i : ℤ) → Text (Level 9) (long_tokens i) (tree (leaf (terms.long i)))
+long_text : (i : ℤ) → Derives (Level 9) (long_tokens i) (tree (leaf (terms.long i)))
 long_text (pos n) = plain_literal (tokens.long n)
 long_text (negsuc n) = minus_literal (tokens.long (suc n)) (terms.long (negsuc n)) refl
 
-point_text : (i : ℤ) (s : ℕ) → Text (Level 9) (point_tokens i s) (tree (leaf (terms.point (decimal i s))))
+point_text : (i : ℤ) (s : ℕ) → Derives (Level 9) (point_tokens i s) (tree (leaf (terms.point (decimal i s))))
 point_text (pos n) s = plain_literal (tokens.point (decimal (pos n) s))
 point_text (negsuc n) s = minus_literal (tokens.point (decimal (pos (suc n)) s)) (terms.point (decimal (negsuc n) s)) refl
 
-leaf_text : (l : Leaf) → IsNamed l → Text (Level 9) (leaf_tokens l) (tree (leaf l))
+leaf_text : (l : Leaf) → IsNamed l → Derives (Level 9) (leaf_tokens l) (tree (leaf l))
 leaf_text (terms.whole i) h = whole_text i
 leaf_text (terms.long i) h = long_text i
 leaf_text (terms.point d) h = point_text (numerator_of d) (scale_of d)
@@ -112,14 +112,14 @@ unsigned : (n : ℕ) (c : Bool) (a : List Token) → (nat_lt n 7 || begins_signe
 unsigned n true a e = refl
 unsigned n false a e = no_number a (neither (nat_lt n 7) (begins_signed a) e).1
 
-mode_text : (m : Mode) → Text grammar.Rounding (Word (codes "BigDecimal") ∷ Mark Dot ∷ Word (round_word m) ∷ []) (mode m)
+mode_text : (m : Mode) → Derives grammar.Rounding (Word (codes "BigDecimal") ∷ Mark Dot ∷ Word (round_word m) ∷ []) (mode m)
 mode_text m = texts.by _ (grammar.old_mode m) (texts.is (texts.is (texts.is texts.done)))
 
-minus_operand : (x : Term) (c : Bool) → (nat_lt (level_of x) 7 || begins_signed (spelled_tokens x)) ≡ c → IsSpelled x → Text (Level 7) (bracketed_tokens c (spelled_tokens x)) (tree x)
+minus_operand : (x : Term) (c : Bool) → (nat_lt (binding_level x) 7 || begins_signed (spelled_tokens x)) ≡ c → IsSpelled x → Derives (Level 7) (bracketed_tokens c (spelled_tokens x)) (tree x)
 minus_operand x true e t = in_brackets 7 x (spelled_tokens x) (omega arith) (outermost x t)
-minus_operand x false e t = looser (level_of x) 7 (spelled_tokens x) x (ltb-false (level_of x) 7 (neither (nat_lt (level_of x) 7) (begins_signed (spelled_tokens x)) e).0) (tightest x) t
+minus_operand x false e t = looser (binding_level x) 7 (spelled_tokens x) x (ltb-false (binding_level x) 7 (neither (nat_lt (binding_level x) 7) (begins_signed (spelled_tokens x)) e).0) (tightest x) t
 
-new_operand : (x : Term) (c : Bool) → begins_point (spelled_tokens x) ≡ c → IsSpelled x → Text (Level 0) (bracketed_tokens c (spelled_tokens x)) (tree x)
+new_operand : (x : Term) (c : Bool) → begins_point (spelled_tokens x) ≡ c → IsSpelled x → Derives (Level 0) (bracketed_tokens c (spelled_tokens x)) (tree x)
 new_operand x true e t = in_brackets 0 x (spelled_tokens x) (omega arith) (outermost x t)
 new_operand x false e t = outermost x t
 
@@ -127,13 +127,13 @@ no_point : (a : List Token) (c : Bool) → begins_point a ≡ c → begins_point
 no_point a true e = refl
 no_point a false e = e
 
-one_text : (op : One) (x : Term) → OneKeepsScale op → IsSpelled x → Text (Level (level_of_one op)) (one_tokens op (level_of x) (spelled_tokens x)) (tree (one op x))
+one_text : (op : One) (x : Term) → OneKeepsScale op → IsSpelled x → Derives (Level (level_of_one op)) (one_tokens op (binding_level x) (spelled_tokens x)) (tree (one op x))
 one_text (unary Minus) x h t =
-    let c = nat_lt (level_of x) 7 || begins_signed (spelled_tokens x) in
+    let c = nat_lt (binding_level x) 7 || begins_signed (spelled_tokens x) in
     text_is 7 _ _ _ (ap (λ a. Operator Sub ∷ a) (append-nil (bracketed_tokens c (spelled_tokens x))))
-    (texts.by _ (grammar.minus x) (texts.opens (texts.part (unsigned (level_of x) c (spelled_tokens x) refl) (minus_operand x c refl t) texts.done)))
+    (texts.by _ (grammar.minus x) (texts.opens (texts.part (unsigned (binding_level x) c (spelled_tokens x) refl) (minus_operand x c refl t) texts.done)))
 one_text (unary Not) x h t =
-    text_is 7 _ _ _ (ap (λ a. Mark tokens.Bang ∷ a) (append-nil (tokens_at_level 7 (level_of x) (spelled_tokens x))))
+    text_is 7 _ _ _ (ap (λ a. Mark tokens.Bang ∷ a) (append-nil (tokens_at_level 7 (binding_level x) (spelled_tokens x))))
     (texts.by _ (grammar.negation x) (texts.opens (texts.part refl (operand 7 x (omega arith) t) texts.done)))
 one_text (unary Negate) x h t =
     texts.by _ (grammar.plain_call Negate (codes "negate") x grammar.negate) (texts.part refl (operand 8 x (omega arith) t) (texts.is (texts.is (texts.opens (texts.is texts.done)))))
@@ -155,13 +155,13 @@ next_level : (o : _) → suc (level_of_operator o) ≡ level_of_operator o + 1
 next_level o = omega arith
 
 two_text : (op : Two) (x y : Term) → TwoKeepsScale op → IsSpelled x → IsSpelled y
-    → Text (Level (level_of_two op)) (two_tokens op (level_of x) (spelled_tokens x) (level_of y) (spelled_tokens y)) (tree (two op x y))
+    → Derives (Level (level_of_two op)) (two_tokens op (binding_level x) (spelled_tokens x) (binding_level y) (spelled_tokens y)) (tree (two op x y))
 two_text (operator o) x y h t u =
     let n = level_of_operator o in
     let le = operator_high o in
-    let left = tokens_at_level n (level_of x) (spelled_tokens x) in
-    let right = tokens_at_level (n + 1) (level_of y) (spelled_tokens y) in
-    let r : Text (Level (suc n)) right (tree y) = subst (λ m. Text (Level m) right (tree y)) (sym (next_level o)) (operand (n + 1) y (omega (arith, le)) u) in
+    let left = tokens_at_level n (binding_level x) (spelled_tokens x) in
+    let right = tokens_at_level (n + 1) (binding_level y) (spelled_tokens y) in
+    let r : Derives (Level (suc n)) right (tree y) = subst (λ m. Derives (Level m) right (tree y)) (sym (next_level o)) (operand (n + 1) y (omega (arith, le)) u) in
     text_is n (left ++ (Operator o ∷ (right ++ []))) (left ++ (Operator o ∷ right)) _ (ap (λ b. left ++ (Operator o ∷ b)) (append-nil right))
     (texts.by _ (grammar.operation n o x y refl) (texts.part refl (operand n x (omega (arith, le)) t) (texts.is (texts.part refl r texts.done))))
 two_text (method c) x y h t u =
@@ -174,7 +174,7 @@ two_text (divide s m) x y h t u =
 
 choice_text : (c x y : Term) → IsSpelled c → IsSpelled x → IsSpelled y → IsSpelled (choice c x y)
 choice_text c x y t u v =
-    let first = tokens_at_level 1 (level_of c) (spelled_tokens c) in
+    let first = tokens_at_level 1 (binding_level c) (spelled_tokens c) in
     text_is 0 (first ++ (Mark Question ∷ (spelled_tokens x ++ (Mark Colon ∷ (spelled_tokens y ++ []))))) (first ++ (Mark Question ∷ (spelled_tokens x ++ (Mark Colon ∷ spelled_tokens y)))) _
     (ap (λ b. first ++ (Mark Question ∷ (spelled_tokens x ++ (Mark Colon ∷ b)))) (append-nil (spelled_tokens y)))
     (texts.by _ (grammar.choose c x y) (texts.part refl (operand 1 c (omega arith) t) (texts.opens (texts.part refl (outermost x u) (texts.is (texts.part refl (outermost y v) texts.done))))))
@@ -189,5 +189,5 @@ spelled (one op x) h = one_text op x h.0 (spelled x h.1)
 spelled (two op x y) h = two_text op x y h.0 (spelled x h.1) (spelled y h.2)
 spelled (choice c x y) h = choice_text c x y (spelled c h.0) (spelled x h.1) (spelled y h.2)
 
-pub spelling_text : (x : Term) → IsRanged x → Text (Level 0) (spelled_tokens x) (tree x)
+pub spelling_text : (x : Term) → IsRanged x → Derives (Level 0) (spelled_tokens x) (tree x)
 spelling_text x h = outermost x (spelled x h)

@@ -12,7 +12,7 @@ use Rattle.pap_tree.specs.Term.{Term, text, unary, value_of, value_of_scaled, ne
 use Rattle.pap_tree.specs.Words.{level_of_operator}
 use Rattle.pap_tree.specs.Tokens.{Token, Quoted, Word, Operator, Mark, Equals, Colon, Comma, Close, CloseItem}
 use Rattle.pap_tree.specs.Grammar as grammar
-use Rattle.pap_tree.specs.Grammar.{Item, Is, Scale, Part, Guard, free, no_number, no_point, of_value, of_quotient, Line, Level, Assignment, Meaning, tree, at, sign, rounding}
+use Rattle.pap_tree.specs.Grammar.{Item, Is, Scale, Part, Guard, free, no_number, no_point, of_value, of_quotient, Line, Level, Assignment, LineMeaning, tree, at, sign, rounding}
 use Rattle.pap_tree.specs.Texts.{forbids}
 use Rattle.pap_tree.specs.Fronts as fronts
 use Rattle.pap_tree.specs.Fronts.{Front}
@@ -50,7 +50,7 @@ Stack whole (Chosen c ∷ k) a = (x y : Term) → Pending (λ p. Stack whole k p
 Stack whole (Otherwise c x ∷ k) a = (y : Term) → Pending (λ p. Stack whole k p) k (Level 0) (at 0 y ∷ []) 1 (tree (choice c x y)) a
 
 -- A front of the part that a frame waits for makes a front of the whole.
-plug_part : (S T : List Token → Type 0) (k j : List Frame) (l whole : Line) (v w : ℕ) (g : Guard) (m n : ℕ) (more : List Item) (u : ℕ) (z : Meaning)
+plug_part : (S T : List Token → Type 0) (k j : List Frame) (l whole : Line) (v w : ℕ) (g : Guard) (m n : ℕ) (more : List Item) (u : ℕ) (z : LineMeaning)
     → (Fits l k → Plugs S k l whole v) → ((a : List Token) → T a → Pending S k l (Part g (Level n) (tree some_term) ∷ more) u z a)
     → ((a : List Token) → clashes (Want j) a ≡ false → forbids g a ≡ false) → n ≤ m → m ≤ 9 → w ≡ u + v → Plugs T j (Level m) whole w
 plug_part S T k j l whole v w g m n more u z outer pending allowed h le e p b q i s f cl =

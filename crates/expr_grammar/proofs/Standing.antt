@@ -9,8 +9,8 @@ use Rattle.pap_tree.specs.Grammar as grammar
 use Rattle.pap_tree.specs.Grammar.{Line, of_setting}
 use Rattle.pap_tree.specs.Stopping as stopping
 use Rattle.pap_tree.specs.Stopping.{WantsScale, IsFraction, new_big_decimal, unsupported, binary_fraction}
-use Rattle.expr_grammar.specs.Lines.{IsWhole}
-use Rattle.expr_grammar.specs.Machine.{Frame, InNew, dividing, setting, valuing, rounding, declaring, OfLine, OfValue, OfNew, the_decimal, the_mode, State, Want, Have, Named, Due, ScaleDue, Parting, Moded, Signed, Listing, same_token, step, steps, start}
+use Rattle.expr_grammar.specs.Lines.{IsWholeLine}
+use Rattle.expr_grammar.specs.Machine.{Frame, InNew, dividing, setting, valuing, rounding, declaring, OfLine, OfValue, OfNew, the_decimal, the_mode, State, Want, Have, Named, Due, ScaleDue, Parting, Moded, Signed, Listing, same_token, step, steps, first_state}
 use Rattle.expr_grammar.specs.Run.{point_cause, close_cause}
 use Rattle.expr_grammar.proofs.Handles.{wants}
 use Rattle.expr_grammar.proofs.Forward.{some_is}
@@ -24,7 +24,7 @@ state_is : (r s : State) (P : State → Type 0) → Some r ≡ Some s → P r �
 state_is r s P e h = subst P (some_is r s e) h
 
 -- where a scale comes next, the state waits for one
-pub wants_state : (line : Line) → IsWhole line → (a : List Token) (s : State) (p : grammar.Scaling) → steps (start line) a ≡ Some s → WantsScale line a p → wants s ≡ Some p
+pub wants_state : (line : Line) → IsWholeLine line → (a : List Token) (s : State) (p : grammar.Scaling) → steps (first_state line) a ≡ Some s → WantsScale line a p → wants s ≡ Some p
 wants_state line w a s p e (n, v, h) =
     let g = front_reaches line w a n (Some (grammar.Scale p v)) h in
     subst (λ s. wants s ≡ Some p) (some_is g.to s (sym g.run ∙ e)) g.expects
@@ -41,9 +41,9 @@ dot_step line (Signed (OfNew r)) s b h e = absurd cc
 dot_step line r s b h e = absurd cc
 
 -- after a point a word is due
-pub dot_state : (line : Line) → IsWhole line → (a b : List Token) (s : State) → steps (start line) a ≡ Some s → a ≡ b ++ (Mark Dot ∷ []) → awaits s ≡ true
+pub dot_state : (line : Line) → IsWholeLine line → (a b : List Token) (s : State) → steps (first_state line) a ≡ Some s → a ≡ b ++ (Mark Dot ∷ []) → awaits s ≡ true
 dot_state line w a b s e f =
-    let p = before_last line b (Mark Dot) s (ap (steps (start line)) (sym f) ∙ e) in
+    let p = before_last line b (Mark Dot) s (ap (steps (first_state line)) (sym f) ∙ e) in
     dot_step line p.state s b (spelled line w b p.state p.run) p.last
 
 -- after `new` there is one way on
@@ -97,26 +97,26 @@ open_step r s n e =
     let f : Some n.inside ≡ Some s = ap (λ r. step r (Mark Open)) (sym n.is) ∙ e in
     state_is n.inside s IsFractional f n.fraction
 
-new_state : (line : Line) → IsWhole line → (b : List Token) (s : State) → steps (start line) (b ++ (Word (codes "new") ∷ [])) ≡ Some s → IsNew s
+new_state : (line : Line) → IsWholeLine line → (b : List Token) (s : State) → steps (first_state line) (b ++ (Word (codes "new") ∷ [])) ≡ Some s → IsNew s
 new_state line w b s e = let p = before_last line b (Word (codes "new")) s e in new_step line p.state s b (spelled line w b p.state p.run) p.last
 
-class_state : (line : Line) → IsWhole line → (b : List Token) (s : State) → steps (start line) (b ++ (Word (codes "new") ∷ Word (codes "BigDecimal") ∷ [])) ≡ Some s → IsNewClass s
+class_state : (line : Line) → IsWholeLine line → (b : List Token) (s : State) → steps (first_state line) (b ++ (Word (codes "new") ∷ Word (codes "BigDecimal") ∷ [])) ≡ Some s → IsNewClass s
 class_state line w b s e =
     let f = append_assoc b (Word (codes "new") ∷ []) (Word (codes "BigDecimal") ∷ []) in
-    let p = before_last line (b ++ (Word (codes "new") ∷ [])) (Word (codes "BigDecimal")) s (ap (steps (start line)) f ∙ e) in
+    let p = before_last line (b ++ (Word (codes "new") ∷ [])) (Word (codes "BigDecimal")) s (ap (steps (first_state line)) f ∙ e) in
     class_step p.state s (new_state line w b p.state p.run) p.last
 
 -- right after new BigDecimal and its bracket
-fraction_inside : (line : Line) → IsWhole line → (b : List Token) (s : State) → steps (start line) (b ++ new_big_decimal) ≡ Some s → IsFractional s
+fraction_inside : (line : Line) → IsWholeLine line → (b : List Token) (s : State) → steps (first_state line) (b ++ new_big_decimal) ≡ Some s → IsFractional s
 fraction_inside line w b s e =
     let f = append_assoc b (Word (codes "new") ∷ Word (codes "BigDecimal") ∷ []) (Mark Open ∷ []) in
-    let p = before_last line (b ++ (Word (codes "new") ∷ Word (codes "BigDecimal") ∷ [])) (Mark Open) s (ap (steps (start line)) f ∙ e) in
+    let p = before_last line (b ++ (Word (codes "new") ∷ Word (codes "BigDecimal") ∷ [])) (Mark Open) s (ap (steps (first_state line)) f ∙ e) in
     open_step p.state s (class_state line w b p.state p.run) p.last
 
-pub fraction_state : (line : Line) → IsWhole line → (a : List Token) (d : Decimal) (s : State) → steps (start line) a ≡ Some s → IsFraction a (Literal (point d)) → point_cause s ≡ binary_fraction
-fraction_state line w a d s e (stopping.plain_fraction b c f) = (fraction_inside line w b s (ap (steps (start line)) (sym f) ∙ e)).cause
+pub fraction_state : (line : Line) → IsWholeLine line → (a : List Token) (d : Decimal) (s : State) → steps (first_state line) a ≡ Some s → IsFraction a (Literal (point d)) → point_cause s ≡ binary_fraction
+fraction_state line w a d s e (stopping.plain_fraction b c f) = (fraction_inside line w b s (ap (steps (first_state line)) (sym f) ∙ e)).cause
 fraction_state line w a d s e (stopping.signed_fraction b c f) =
-    let p = before_last line (b ++ new_big_decimal) (Operator binaries.Sub) s (ap (steps (start line)) (append_assoc b new_big_decimal (Operator binaries.Sub ∷ []) ∙ sym f) ∙ e) in
+    let p = before_last line (b ++ new_big_decimal) (Operator binaries.Sub) s (ap (steps (first_state line)) (append_assoc b new_big_decimal (Operator binaries.Sub ∷ []) ∙ sym f) ∙ e) in
     (fraction_inside line w b p.state p.run).minus s p.last
 
 -- after the scale of setScale
@@ -128,8 +128,8 @@ int_step (ScaleDue (valuing x k)) s n h e = absurd cc
 int_step (ScaleDue (declaring i r)) s n h e = absurd cc
 int_step r s n h e = absurd cc
 
-pub setting_state : (line : Line) → IsWhole line → (a b : List Token) (n : ℕ) (s : State) → steps (start line) a ≡ Some s → a ≡ b ++ (Literal (int n) ∷ []) → WantsScale line b of_setting
+pub setting_state : (line : Line) → IsWholeLine line → (a b : List Token) (n : ℕ) (s : State) → steps (first_state line) a ≡ Some s → a ≡ b ++ (Literal (int n) ∷ []) → WantsScale line b of_setting
     → close_cause s ≡ unsupported
 setting_state line w a b n s e f h =
-    let p = before_last line b (Literal (int n)) s (ap (steps (start line)) (sym f) ∙ e) in
+    let p = before_last line b (Literal (int n)) s (ap (steps (first_state line)) (sym f) ∙ e) in
     int_step p.state s n (wants_state line w b p.state of_setting p.run h) p.last

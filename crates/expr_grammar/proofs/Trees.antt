@@ -15,7 +15,7 @@ use Rattle.pap_tree.specs.declared.expression.Binary.{Binary}
 use Rattle.pap_tree.specs.declared.expression.Binary.TheVariants.{Sub}
 use Rattle.pap_tree.specs.Term.{One, unary, value_of, value_of_scaled, new_big, set_scale, Two, operator, method, divide, Term, leaf, item, one, two, choice}
 use Rattle.pap_tree.specs.Spelling as bytes
-use Rattle.pap_tree.specs.Spelling.{level_of, spelling, spelled_one, spelled_two, scale_and_mode}
+use Rattle.pap_tree.specs.Spelling.{binding_level, spelling, spelled_one, spelled_two, scale_and_mode}
 use Rattle.pap_tree.specs.Tokens as tokens
 use Rattle.pap_tree.specs.Tokens.{Token, Literal, Word, Operator, Mark, Question, Colon, Dot, Comma, Open, Close, OpenItem, CloseItem, int, greatest_int, is_word_text}
 use Rattle.pap_tree.specs.Texts.{begins_point}
@@ -222,6 +222,6 @@ choice_good n c a b ts us vs f g k =
 pub good : (x : Term) → IsHeld x → Good (spelling x) (spelled_tokens x)
 good (leaf l) h = leaf_good l h
 good (item x a) h = item_good x (spelling a) (spelled_tokens a) (word_good x (name_word x h.0)) (good a h.1)
-good (one op a) h = one_good op (level_of a) (spelling a) (spelled_tokens a) h.0 (good a h.1)
-good (two op a b) h = two_good op (level_of a) (level_of b) (spelling a) (spelling b) (spelled_tokens a) (spelled_tokens b) h.0 (good a h.1) (good b h.2)
-good (choice c a b) h = choice_good (level_of c) (spelling c) (spelling a) (spelling b) (spelled_tokens c) (spelled_tokens a) (spelled_tokens b) (good c h.0) (good a h.1) (good b h.2)
+good (one op a) h = one_good op (binding_level a) (spelling a) (spelled_tokens a) h.0 (good a h.1)
+good (two op a b) h = two_good op (binding_level a) (binding_level b) (spelling a) (spelling b) (spelled_tokens a) (spelled_tokens b) h.0 (good a h.1) (good b h.2)
+good (choice c a b) h = choice_good (binding_level c) (spelling c) (spelling a) (spelling b) (spelled_tokens c) (spelled_tokens a) (spelled_tokens b) (good c h.0) (good a h.1) (good b h.2)

@@ -12,7 +12,7 @@ use Rattle.pap_tree.specs.Tokens.{Number, Token, Literal, Quoted, Word, Operator
 use Rattle.pap_tree.specs.Grammar as grammar
 use Rattle.pap_tree.specs.Grammar.{Is, Part, no_number, no_point, Line, Level, tree, at, sign, word, leaf_of, negative_of, form_of}
 use Rattle.pap_tree.specs.Texts as texts
-use Rattle.pap_tree.specs.Texts.{Text}
+use Rattle.pap_tree.specs.Texts.{Derives}
 use Rattle.pap_tree.specs.Fronts as fronts
 use Rattle.pap_tree.specs.Stopping.{new_big_decimal}
 use Rattle.expr_grammar.specs.Machine.{Frame, InBrackets, InNew, Negating, Denying, Head, the_class, a_new, head_word, head_of, State, Want, Have, Named, Due, Static, level, taken, literal_step, quoted_step, begun as begins_with, step}
@@ -35,7 +35,7 @@ moved line r s a e h = let f : r ≡ s = cc in subst (λ s. Spelled line s a) f 
 pub have_of : (line : Line) (k : List Frame) (n : ℕ) (x : Term) (a : List Token) → 8 ≤ n → IsRead line k n x a → Spelled line (Have x k) a
 have_of line k n x a h r = loosened line k n 8 x a h (let g = hole_high k in omega (arith, g)) r
 
-pub have_fresh : (line : Line) (k : List Frame) (x : Term) (p b a : List Token) → Stack line k p → Text (Level 9) b (tree x) → clashes (Want k) b ≡ false → a ≡ p ++ b
+pub have_fresh : (line : Line) (k : List Frame) (x : Term) (p b a : List Token) → Stack line k p → Derives (Level 9) b (tree x) → clashes (Want k) b ≡ false → a ≡ p ++ b
     → Spelled line (Have x k) a
 have_fresh line k x p b a s t cl e = have_of line k 9 x a (omega arith) (fresh line k x p b a s t cl e)
 
@@ -53,10 +53,10 @@ close_due line k n x a h p =
 
 -- ---- literals
 
-literal_text : (n : Number) → Text (Level 9) (Literal n ∷ []) (tree (leaf (leaf_of n)))
+literal_text : (n : Number) → Derives (Level 9) (Literal n ∷ []) (tree (leaf (leaf_of n)))
 literal_text n = texts.by _ (grammar.a_literal (form_of n) (leaf_of n)) (texts.part refl (texts.by _ (grammar.without_sign (form_of n) n refl) (texts.is texts.done)) texts.done)
 
-minus_text : (n : Number) → Text (Level 9) (Operator binaries.Sub ∷ Literal n ∷ []) (tree (leaf (negative_of n)))
+minus_text : (n : Number) → Derives (Level 9) (Operator binaries.Sub ∷ Literal n ∷ []) (tree (leaf (negative_of n)))
 minus_text n = texts.by _ (grammar.a_literal (form_of n) (negative_of n)) (texts.part refl (texts.by _ (grammar.with_sign (form_of n) n refl) (texts.opens (texts.is texts.done))) texts.done)
 
 -- a literal was taken that doesn't clash

@@ -14,8 +14,8 @@ use Rattle.pap_tree.specs.Words.{level_of_operator}
 use Rattle.pap_tree.specs.Tokens as tokens
 use Rattle.pap_tree.specs.Tokens.{Number, Token, Literal, Word, Operator, Mark, Question, Dot, Open, Close}
 use Rattle.pap_tree.specs.Grammar as grammar
-use Rattle.pap_tree.specs.Grammar.{Item, Line, Level, Meaning, Way, leaf_of, negative_of}
-use Rattle.expr_grammar.specs.Machine.{Job, Head, the_class, a_new, head_word, head_of, big_begun, settling, of_number, applied, opposite, magnitude, rescaled, class_held, moded, Frame, InBrackets, InCall, InItem, InValue, InNew, Negating, Denying, Left, Chosen, Otherwise, Assigning, Room, Alone, InTable, rounding, dividing, setting, valuing, declaring, OfLine, OfValue, OfNew, the_decimal, the_mode, State, Want, Have, Named, Due, Member, Static, ScaleDue, Parting, Moding, Moded, Naming, Signed, Minus, ValuedInt, ValuedPoint, Settling, Listing, Listed, Done, level, level_of, binds, made, behind_operand, tightness, called, of_class, taken, literal_step, begun, scaled, settled, step}
+use Rattle.pap_tree.specs.Grammar.{Item, Line, Level, LineMeaning, Way, leaf_of, negative_of}
+use Rattle.expr_grammar.specs.Machine.{ScaleUse, Head, the_class, a_new, head_word, head_of, big_begun, settling, of_number, applied, opposite, magnitude, rescaled, class_held, moded, Frame, InBrackets, InCall, InItem, InValue, InNew, Negating, Denying, Left, Chosen, Otherwise, Assigning, Room, Alone, InTable, rounding, dividing, setting, valuing, declaring, OfLine, OfValue, OfNew, the_decimal, the_mode, State, Want, Have, Named, Due, Member, Static, ScaleDue, Parting, Moding, Moded, Naming, Signed, Minus, ValuedInt, ValuedPoint, Settling, Listing, Listed, Done, level, level_of, binds, made, behind_operand, tightness, called, of_class, taken, literal_step, begun, scaled, settled, step}
 use Rattle.expr_grammar.proofs.Holes.{hole, clashes, follows}
 use Rattle.expr_grammar.proofs.Handles as handles
 use Rattle.expr_grammar.proofs.Handles.{Suits, opening, after, Same, Follows, Handles}
@@ -72,7 +72,7 @@ minus_literal (f ∷ k) n e = refl
 named_step : (k : List Frame) (x : List ℕ) → is_name x ≡ true → step (Want k) (Word x) ≡ Some (Named x k)
 named_step k x e = ap (λ c. cond c (Some (Named x k)) (begun k (head_of x))) e
 
-scaled_step : (j : Job) (s : ℕ) → s ≤ most_places → step (ScaleDue j) (Literal (tokens.int s)) ≡ Some (scaled j s)
+scaled_step : (j : ScaleUse) (s : ℕ) → s ≤ most_places → step (ScaleDue j) (Literal (tokens.int s)) ≡ Some (scaled j s)
 scaled_step j s h = ap (λ c. cond c (Some (scaled j s)) None) (le-leb s most_places h)
 
 assigned_step : (x : List ℕ) → is_name x ≡ true → step Naming (Word x) ≡ Some (Due 0 (Mark tokens.Equals) (Want (Assigning x ∷ [])))
@@ -117,7 +117,7 @@ big_done (InTable ds) d = handles.done (exact _ _) (here 0)
 
 -- ---- the ways
 
-pub ways : {l : Line} {way : List Item} {x : Meaning} → Way l way x → (s : State) → Suits l s
+pub ways : {l : Line} {way : List Item} {x : LineMeaning} → Way l way x → (s : State) → Suits l s
     → Handles (clashes s) l (level_of s) way s (after s x)
 ways (grammar.choose c a b) _ (handles.expression _ k h) =
     handles.then_opens (Want (Chosen c ∷ k)) (handles.expression 1 k (omega (arith, h))) (here _) (λ a f e. e) refl (asked c k h)

@@ -2,7 +2,7 @@
 use Rattle.pap_tree.specs.Grammar.{Line, Level, Assignment, Constant}
 
 -- the line is one of the three that stand alone in a plan
-pub data IsWhole : Line → Type 0 where
-  a_test : IsWhole (Level 0)
-  an_assignment : IsWhole Assignment
-  a_constant : IsWhole Constant
+pub data IsWholeLine : Line → Type 0 where
+  a_test : IsWholeLine (Level 0)
+  an_assignment : IsWholeLine Assignment
+  a_constant : IsWholeLine Constant

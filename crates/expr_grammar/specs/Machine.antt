@@ -18,8 +18,8 @@ use Rattle.pap_tree.specs.Declarations.{number, big, table}
 use Rattle.pap_tree.specs.Words.{level_of_operator, call_word, known_word, mode_word, round_word}
 use Rattle.pap_tree.specs.Tokens as tokens
 use Rattle.pap_tree.specs.Tokens.{Sign, Number, Token, Literal, Quoted, Word, Operator, Mark, Equals, Bang, Question, Colon, Dot, Comma, Semicolon, Open, Close, OpenItem, CloseItem, OpenTable, CloseTable, sign_text}
-use Rattle.pap_tree.specs.Grammar.{Line, Assignment, Constant, Meaning, tree, assignment, declared, leaf_of, negative_of, known_value}
-use Rattle.expr_grammar.specs.Shortened.{shortened}
+use Rattle.pap_tree.specs.Grammar.{Line, Assignment, Constant, LineMeaning, tree, assignment, declared, leaf_of, negative_of, known_value}
+use Rattle.expr_grammar.specs.Shortened.{shortened_places}
 
 -- what waits for the expression that is read
 pub data Frame : Type 0 where
@@ -57,10 +57,10 @@ pub data Room : Type 0 where
   InTable : List Decimal → Room
 
 -- what a scale is given to
-pub data Job : Type 0 where
-  valuing : Term → List Frame → Job
-  rounding : Rounded → List Frame → Job
-  declaring : ℤ → Room → Job
+pub data ScaleUse : Type 0 where
+  valuing : Term → List Frame → ScaleUse
+  rounding : Rounded → List Frame → ScaleUse
+  declaring : ℤ → Room → ScaleUse
 
 -- where a literal of a constant stands, with a - before it or without: as the line, in valueOf, in new BigDecimal
 pub data Slot : Type 0 where
@@ -88,7 +88,7 @@ pub data State : Type 0 where
   -- a word is due after BigDecimal and a point
   Static : List Frame → State
   -- a scale is due
-  ScaleDue : Job → State
+  ScaleDue : ScaleUse → State
   -- after a scale a comma is due
   Parting : Rounded → ℕ → List Frame → State
   -- a mode is due
@@ -112,7 +112,7 @@ pub data State : Type 0 where
   -- a decimal of a table is read
   Listed : List Decimal → State
   -- the line is read
-  Done : Meaning → State
+  Done : LineMeaning → State
 
 -- the levels that are open
 abbrev pub level : List Frame → ℕ
@@ -122,7 +122,7 @@ level (Assigning w ∷ k) = level k
 level (f ∷ k) = suc (level k)
 
 -- the levels that are open while a scale is due
-abbrev pub level_of_job : Job → ℕ
+abbrev pub level_of_job : ScaleUse → ℕ
 level_of_job (valuing x k) = suc (level k)
 level_of_job (rounding r k) = suc (level k)
 level_of_job (declaring i r) = 1
@@ -292,15 +292,15 @@ ended_in [] s x = None
 ended_in (f ∷ k) s x = ended f s x k
 
 -- a mark behind an expression: a dot, a question mark, or one that ends a frame
-abbrev pub marked : Sign → Term → List Frame → Option State
-marked Dot x k = Some (Member x k)
-marked Question x k = Some (Want (Chosen x ∷ k))
-marked s x k = ended_in k s x
+abbrev pub after_mark : Sign → Term → List Frame → Option State
+after_mark Dot x k = Some (Member x k)
+after_mark Question x k = Some (Want (Chosen x ∷ k))
+after_mark s x k = ended_in k s x
 
 -- a token behind an expression whose tighter frames are closed
 abbrev pub behind_operand : Token → Term × List Frame → Option State
 behind_operand (Operator o) r = Some (Want (Left o r.0 ∷ r.1))
-behind_operand (Mark s) r = marked s r.0 r.1
+behind_operand (Mark s) r = after_mark s r.0 r.1
 behind_operand _ r = None
 
 -- the step behind an expression
@@ -375,13 +375,13 @@ settled Alone d = Done (declared (big d))
 settled (InTable ds) d = Listed (ds ++ (d ∷ []))
 
 -- a scale is read, and what is due behind it
-abbrev pub scaled : Job → ℕ → State
+abbrev pub scaled : ScaleUse → ℕ → State
 scaled (valuing x k) s = Due (suc (level k)) (Mark Close) (Have (one (value_of_scaled s) x) k)
 scaled (rounding r k) s = Parting r s k
 scaled (declaring i r) s = Due 1 (Mark Close) (settled r (decimal i s))
 
 -- the step where a scale is due
-abbrev pub scale_step : Job → Token → Option State
+abbrev pub scale_step : ScaleUse → Token → Option State
 scale_step j (Literal (tokens.int s)) = if nat_le s most_places then Some (scaled j s) else None
 scale_step j _ = None
 
@@ -473,7 +473,7 @@ int_step i r _ = None
 
 -- the step behind the number with a point of `valueOf(`
 abbrev pub point_step : Decimal → Room → Token → Option State
-point_step d r (Mark Close) = option_map (settled r) (shortened d)
+point_step d r (Mark Close) = option_map (settled r) (shortened_places d)
 point_step d r _ = None
 
 -- what is due behind a constant's word in a declared decimal
@@ -522,17 +522,17 @@ step (Listed ds) t = listed_step ds t
 step (Done x) t = None
 
 -- what a line stands for whose frames are all closed
-abbrev pub whole_of : Term → List Frame → Option Meaning
+abbrev pub whole_of : Term → List Frame → Option LineMeaning
 whole_of x [] = Some (tree x)
 whole_of x (Assigning w ∷ k) = Some (assignment w x)
 whole_of x _ = None
 
 -- what a line stands for that ends with this expression, where nothing waits on the stack
-abbrev pub whole_line : Term × List Frame → Option Meaning
+abbrev pub whole_line : Term × List Frame → Option LineMeaning
 whole_line r = whole_of r.0 r.1
 
 -- what the line stands for, where it ends here
-abbrev pub finish : State → Option Meaning
+abbrev pub finish : State → Option LineMeaning
 finish (Have x k) = whole_line (close 0 x k)
 finish (Named w k) = whole_line (close 0 (leaf (named w)) k)
 finish (Done x) = Some x
@@ -544,7 +544,7 @@ steps s [] = Some s
 steps s (t ∷ ts) = option_and_then (λ r. steps r ts) (step s t)
 
 -- where a line begins: a test, an assignment or a declared literal
-abbrev pub start : Line → State
-start Assignment = Naming
-start Constant = Signed OfLine
-start _ = Want []
+abbrev pub first_state : Line → State
+first_state Assignment = Naming
+first_state Constant = Signed OfLine
+first_state _ = Want []

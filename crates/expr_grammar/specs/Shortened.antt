@@ -4,5 +4,5 @@ use Rattle.scaled_decimal.specs.Decimals.{Decimal, scale_of}
 use Rattle.scaled_decimal.specs.ShortenedDecimals as decimals
 
 -- none where the decimal has no places
-abbrev pub shortened : Decimal → Option Decimal
-shortened d = if nat_lt (scale_of d) 1 then None else Some (decimals.shortened 1 d)
+abbrev pub shortened_places : Decimal → Option Decimal
+shortened_places d = if nat_lt (scale_of d) 1 then None else Some (decimals.shortened 1 d)

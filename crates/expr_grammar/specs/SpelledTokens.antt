@@ -7,7 +7,7 @@ use Rattle.pap_tree.specs.declared.expression.Binary.TheVariants.{Sub}
 use Rattle.pap_tree.specs.Term as terms
 use Rattle.pap_tree.specs.Term.{Leaf, One, unary, value_of, value_of_scaled, new_big, set_scale, Two, operator, method, divide, Term, leaf, item, one, two, choice}
 use Rattle.pap_tree.specs.Words.{level_of_operator, call_word, known_word, round_word}
-use Rattle.pap_tree.specs.Spelling.{level_of}
+use Rattle.pap_tree.specs.Spelling.{binding_level}
 use Rattle.pap_tree.specs.Tokens.{Token, Literal, Quoted, Word, Operator, Mark, Bang, Question, Colon, Dot, Comma, Open, Close, OpenItem, CloseItem, int, long, point}
 use Rattle.pap_tree.specs.Texts.{begins_point}
 
@@ -82,6 +82,6 @@ two_tokens (divide s r) m a n b = tokens_at_level 8 m a ++ method_tokens (codes 
 abbrev pub spelled_tokens : Term → List Token
 spelled_tokens (leaf l) = leaf_tokens l
 spelled_tokens (item x a) = Word x ∷ Mark OpenItem ∷ (spelled_tokens a ++ (Mark CloseItem ∷ []))
-spelled_tokens (one op a) = one_tokens op (level_of a) (spelled_tokens a)
-spelled_tokens (two op a b) = two_tokens op (level_of a) (spelled_tokens a) (level_of b) (spelled_tokens b)
-spelled_tokens (choice c a b) = tokens_at_level 1 (level_of c) (spelled_tokens c) ++ (Mark Question ∷ (spelled_tokens a ++ (Mark Colon ∷ spelled_tokens b)))
+spelled_tokens (one op a) = one_tokens op (binding_level a) (spelled_tokens a)
+spelled_tokens (two op a b) = two_tokens op (binding_level a) (spelled_tokens a) (binding_level b) (spelled_tokens b)
+spelled_tokens (choice c a b) = tokens_at_level 1 (binding_level c) (spelled_tokens c) ++ (Mark Question ∷ (spelled_tokens a ++ (Mark Colon ∷ spelled_tokens b)))

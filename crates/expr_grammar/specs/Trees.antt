@@ -6,17 +6,17 @@ use Rattle.pap_tree.specs.Numbering.{nodes}
 use Rattle.pap_tree.specs.Scales.{HasPlaces, KeepsScales}
 use Rattle.pap_tree.specs.Tokens as tokens
 use Rattle.pap_tree.specs.Tokens.{Token, Literal}
-use Rattle.pap_tree.specs.Grammar.{Meaning, tree, literal, assignment, declared}
+use Rattle.pap_tree.specs.Grammar.{LineMeaning, tree, literal, assignment, declared}
 
 -- the nodes of the tree that is meant
-abbrev pub size : Meaning → ℕ
+abbrev pub size : LineMeaning → ℕ
 size (tree x) = nodes x
 size (literal l) = 1
 size (assignment x e) = nodes e
 size _ = 0
 
 -- the literals of what a line stands for have places, and its scales are at most 30
-abbrev pub IsKeeping : Meaning → Type 0
+abbrev pub IsKeeping : LineMeaning → Type 0
 IsKeeping (tree x) = KeepsScales x
 IsKeeping (literal l) = HasPlaces l
 IsKeeping (assignment x e) = KeepsScales e

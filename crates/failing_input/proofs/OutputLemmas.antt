@@ -9,7 +9,7 @@ use Rattle.pap_tree.specs.Declarations.{Declaration, declaration_of}
 use Rattle.pap_tree.specs.declared.plan.PlanText.{PlanText}
 use Rattle.pap_tree.specs.Flowchart.{Flowchart, flowchart_of}
 use Rattle.limits_file.specs.Limits.{IsWithinBound, output_places, output_limit}
-use Rattle.pap_types.specs.Values.{Entry}
+use Rattle.pap_types.specs.Values.{Variable}
 use Rattle.pap_types.proofs.Laws.{names-ends}
 use Rattle.checked_run.specs.RunEnds.{EndsAs}
 use Rattle.failing_input.specs.declared.failure.Failure.{Failure}
@@ -98,8 +98,8 @@ output_of p n ds values name count same h =
 pub ends_there : (f : Flowchart) (inputs values : List Decimal) → EndsAs f inputs values → HasEnds f values
 ends_there f inputs values h =
     let names = ap length (names-ends f inputs h.safe.ends h.safe.given h.safe.defined) in
-    let entries = length-map h.safe.ends (λ (v : Entry). v.name) in
-    let stand = ap length (sym h.stand) ∙ length-map h.safe.ends (λ (v : Entry). v.value) in
+    let entries = length-map h.safe.ends (λ (v : Variable). v.name) in
+    let stand = ap length (sym h.stand) ∙ length-map h.safe.ends (λ (v : Variable). v.value) in
     let declared = length-map (f.inputs ++ (f.outputs ++ f.internals)) (λ (d : Declaration). d.name) in
     let parts = length-append f.inputs (f.outputs ++ f.internals) in
     let others = length-append f.outputs f.internals in

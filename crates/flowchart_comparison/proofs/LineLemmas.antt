@@ -13,7 +13,7 @@ use Rattle.pap_tree.proofs.Laws.{stmt_then-If, stmt_at, branch_is}
 use Rattle.pap_tree.specs.Declarations.{declaration_of}
 use Rattle.pap_tree.specs.declared.declaration.Declared.{Declared}
 use Rattle.pap_tree.specs.declared.plan.PlanText.{PlanText}
-use Rattle.flowchart_comparison.specs.Outlines.{TextLine, TextItem, statement, mark, else_mark, lines_of, declared_item, declared_items}
+use Rattle.flowchart_comparison.specs.Outlines.{TextLine, TextItem, statement, mark, else_mark, outline_lines, declared_item, declared_items}
 use Rattle.flowchart_comparison.specs.private.OutlineViews.{AddsLines, AddsOne, AddsMark, AddsElse}
 
 -- ---- how many statements there are
@@ -41,19 +41,19 @@ regroup a e b r m =
 -- the lines of an IF, of its parts
 abbrev if_lines : ℕ → ℕ → List ℕ → Body → Body → Body → List TextLine
 if_lines at behind test a b rest =
-    statement at test ∷ (lines_of (at + 1) a ++ (else_mark b ++ (lines_of (at + 1 + written a) b
-    ++ (mark (codes "END IF") ∷ lines_of behind rest))))
+    statement at test ∷ (outline_lines (at + 1) a ++ (else_mark b ++ (outline_lines (at + 1 + written a) b
+    ++ (mark (codes "END IF") ∷ outline_lines behind rest))))
 
 if-then : (at n : ℕ) (test : List ℕ) (a b rest : Body) → n ≡ at + 1 + written a + written b
-    → if_lines at (at + 1 + written a + written b) test a b rest ≡ if_lines at (at + 1 + written a + written b) test a b done ++ lines_of n rest
+    → if_lines at (at + 1 + written a + written b) test a b rest ≡ if_lines at (at + 1 + written a + written b) test a b done ++ outline_lines n rest
 if-then at n test a b rest e =
-    subst (λ k. if_lines at (at + 1 + written a + written b) test a b rest ≡ if_lines at (at + 1 + written a + written b) test a b done ++ lines_of k rest) (sym e)
+    subst (λ k. if_lines at (at + 1 + written a + written b) test a b rest ≡ if_lines at (at + 1 + written a + written b) test a b done ++ outline_lines k rest) (sym e)
     (ap (λ l. statement at test ∷ l)
-    (regroup (lines_of (at + 1) a) (else_mark b) (lines_of (at + 1 + written a) b)
-    (lines_of (at + 1 + written a + written b) rest) (mark (codes "END IF"))))
+    (regroup (outline_lines (at + 1) a) (else_mark b) (outline_lines (at + 1 + written a) b)
+    (outline_lines (at + 1 + written a + written b) rest) (mark (codes "END IF"))))
 
 lines-then : (at : ℕ) (s : Stmt) (rest : Body)
-    → lines_of at (stmt_then s rest) ≡ lines_of at (stmt_then s done) ++ lines_of (at + written (stmt_then s done)) rest
+    → outline_lines at (stmt_then s rest) ≡ outline_lines at (stmt_then s done) ++ outline_lines (at + written (stmt_then s done)) rest
 lines-then at (Eval x e) rest = refl
 lines-then at (If' t m ys n zs) rest =
     if-then at (at + (1 + written (body_of_row ys) + written (body_of_row zs) + 0)) (codes "IF " ++ spelling (term_of t))
@@ -61,16 +61,16 @@ lines-then at (If' t m ys n zs) rest =
 lines-then at (Execute x) rest = refl
 
 lines_at : (at : ℕ) (ss : List Stmt) (i : ℕ) (s : Stmt) → s ≡ get_or ss i s → i < length ss
-    → lines_of at (body_of (drop i ss))
-    ≡ lines_of at (stmt_then s done) ++ lines_of (at + written (stmt_then s done)) (body_of (drop (i + 1) ss))
-lines_at at ss i s is lt = ap (lines_of at) (stmt_at ss i s is lt) ∙ lines-then at s (body_of (drop (i + 1) ss))
+    → outline_lines at (body_of (drop i ss))
+    ≡ outline_lines at (stmt_then s done) ++ outline_lines (at + written (stmt_then s done)) (body_of (drop (i + 1) ss))
+lines_at at ss i s is lt = ap (outline_lines at) (stmt_at ss i s is lt) ∙ lines-then at s (body_of (drop (i + 1) ss))
 
 -- ---- a list, as far as its lines are added
 
 -- with the lines of what is left, those of all statements will be added
 pub record IsLeft (all rest : Body) (first next : ℕ) (before lines : List TextLine) : Type 0 where
   pub counted : next + written rest ≡ first + written all
-  pub added : lines ++ lines_of next rest ≡ before ++ lines_of first all
+  pub added : lines ++ outline_lines next rest ≡ before ++ outline_lines first all
 
 pub one_more : (all : Body) (ss : List Stmt) (i : ℕ) (s : Stmt) (first next next' : ℕ) (before lines lines' : List TextLine)
     → s ≡ get_or ss i s → i < length ss → IsLeft all (body_of (drop i ss)) first next before lines
@@ -81,9 +81,9 @@ one_more all ss i s first next next' before lines lines' is lt left adds =
     let rest = body_of (drop (i + 1) ss) in
     record {
       counted = omega (arith, w, left.counted, adds.counted);
-      added = ap (λ l. l ++ lines_of next' rest) adds.added
-          ∙ append_assoc lines (lines_of next (stmt_then s done)) (lines_of next' rest)
-          ∙ ap (λ n. lines ++ (lines_of next (stmt_then s done) ++ lines_of n rest)) adds.counted
+      added = ap (λ l. l ++ outline_lines next' rest) adds.added
+          ∙ append_assoc lines (outline_lines next (stmt_then s done)) (outline_lines next' rest)
+          ∙ ap (λ n. lines ++ (outline_lines next (stmt_then s done) ++ outline_lines n rest)) adds.counted
           ∙ ap (λ l. lines ++ l) (sym (lines_at next ss i s is lt))
           ∙ left.added;
     }
@@ -134,15 +134,15 @@ if_added s t ys zs a b b' text n0 n1 n2 n3 n4 n5 l0 l1 l2 l3 l4 l5 is ea eb eb' 
     record {
       counted = omega (arith, one.counted, first.counted, none.counted, second.counted, end.counted, total);
       added =
-          in_turn l0 l1 l2 l3 l4 l5 (lines_of (n0 + 1) (body_of a)) (else_mark (body_of b))
-          (lines_of (n0 + 1 + written (body_of a)) (body_of b)) (statement n0 (codes "IF " ++ spelling (term_of t)))
+          in_turn l0 l1 l2 l3 l4 l5 (outline_lines (n0 + 1) (body_of a)) (else_mark (body_of b))
+          (outline_lines (n0 + 1 + written (body_of a)) (body_of b)) (statement n0 (codes "IF " ++ spelling (term_of t)))
           (mark (codes "END IF"))
           (one.added ∙ ap (λ x. l0 ++ (statement n0 x ∷ [])) same)
-          (first.added ∙ ap (λ n. l1 ++ lines_of n (body_of a)) one.counted)
+          (first.added ∙ ap (λ n. l1 ++ outline_lines n (body_of a)) one.counted)
           (none.added ∙ ap (λ l. l2 ++ l) else_is)
-          (second.added ∙ ap (λ n. l3 ++ lines_of n (body_of b)) at_b)
+          (second.added ∙ ap (λ n. l3 ++ outline_lines n (body_of b)) at_b)
           end.added
-          ∙ ap (λ x. l0 ++ lines_of n0 x) (sym body);
+          ∙ ap (λ x. l0 ++ outline_lines n0 x) (sym body);
     }
 
 -- ---- one statement

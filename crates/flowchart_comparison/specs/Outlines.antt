@@ -37,16 +37,16 @@ else_mark b = if is_done b then [] else mark (codes "ELSE") ∷ []
 
 -- The lines of statements that are numbered from `at`, in the order of the text: an assignment, an IF with its test, the
 -- first list, the second behind ELSE and the end, and an EXECUTE.
-abbrev pub lines_of : ℕ → Body → List TextLine
-lines_of at done = []
-lines_of at (eval x e rest) = statement at (x ++ (codes " = " ++ spelling e)) ∷ lines_of (at + 1) rest
-lines_of at (branch t a b rest) =
+abbrev pub outline_lines : ℕ → Body → List TextLine
+outline_lines at done = []
+outline_lines at (eval x e rest) = statement at (x ++ (codes " = " ++ spelling e)) ∷ outline_lines (at + 1) rest
+outline_lines at (branch t a b rest) =
     statement at (codes "IF " ++ spelling t)
-    ∷ (lines_of (at + 1) a
+    ∷ (outline_lines (at + 1) a
     ++ (else_mark b
-    ++ (lines_of (at + 1 + written a) b
-    ++ (mark (codes "END IF") ∷ lines_of (at + 1 + written a + written b) rest))))
-lines_of at (execute m rest) = statement at (codes "EXECUTE " ++ m) ∷ lines_of (at + 1) rest
+    ++ (outline_lines (at + 1 + written a) b
+    ++ (mark (codes "END IF") ∷ outline_lines (at + 1 + written a + written b) rest))))
+outline_lines at (execute m rest) = statement at (codes "EXECUTE " ++ m) ∷ outline_lines (at + 1) rest
 
 -- ---- declarations
 
@@ -104,7 +104,7 @@ pub record LinedMethod : Type 0 where
 
 -- the lines of a method
 abbrev pub lined : List ℕ → Body → LinedMethod
-lined name body = record { name = name; lines = lines_of 0 body }
+lined name body = record { name = name; lines = outline_lines 0 body }
 
 -- all methods, MAIN first
 abbrev pub lined_methods : Flowchart → List LinedMethod

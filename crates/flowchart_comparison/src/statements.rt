@@ -3,7 +3,7 @@ ghost use Rattle.std.specs.Prelude.{◌≡◌, ◌≤◌, ◌++◌, codes, IfOk,
 ghost use Rattle.pap_tree.specs.Flowchart.{body_of, stmt_then, done};
 ghost use Rattle.pap_tree.specs.Term.{term_of};
 ghost use Rattle.pap_tree.specs.Spelling.{spelling};
-ghost use Rattle.flowchart_comparison.specs.Outlines.{lines_of};
+ghost use Rattle.flowchart_comparison.specs.Outlines.{outline_lines};
 ghost use Rattle.flowchart_comparison.specs.private.OutlineViews.{AddsLines, AddsOne, AddsMark, AddsElse};
 
 use crate::Line;
@@ -121,7 +121,7 @@ fn call_text(alloc: Global, method: &Name) -> Result<Vec<u8>, AllocError>
 
 /// The lines of a method's statements, in the order of the text.
 pub(crate) fn method_lines(alloc: Global, body: &[Stmt]) -> Result<Vec<Line>, AllocError>
-    ensures { IfOk result (λ lines. lines.items ≡ lines_of 0 (body_of body.now)) }
+    ensures { IfOk result (λ lines. lines.items ≡ outline_lines 0 (body_of body.now)) }
 {
     let mut writer = LineWriter {
         alloc,

@@ -5,7 +5,7 @@ use Rattle.std.specs.Option.{option_map, option_and_then}
 use Rattle.interval_num.specs.declared.sign_set.SignSet.{SignSet}
 use Rattle.interval_num.specs.Intervals.{Interval}
 use Rattle.interval_num.specs.Refinement.{refined}
-use Rattle.interval_num.specs.Signs.{HasOrder, signs_of}
+use Rattle.interval_num.specs.Signs.{HasSignOf, signs_of}
 use Rattle.interval_num.proofs.Laws.{refined_some, signs_back}
 use Rattle.interval_walk.specs.Branches.{can_have, exchanged}
 use Rattle.interval_analysis.specs.declared.comparisons.Against.{Against}
@@ -24,8 +24,8 @@ either false t e = inr e
 -- a sign of both sets
 record HaveSign (a b : SignSet) : Type 0 where
   order : Ordering
-  left : HasOrder a order
-  right : HasOrder b order
+  left : HasSignOf a order
+  right : HasSignOf b order
 
 sign_there : (a b : SignSet) → can_have a b ≡ true → HaveSign a b
 sign_there a b e = elim (either (a.minus && b.minus) ((a.zero && b.zero) || (a.plus && b.plus)) e) [
@@ -41,7 +41,7 @@ back Less = Greater
 back Equal = Equal
 back Greater = Less
 
-turned_back : (a : SignSet) (o : Ordering) → HasOrder a o → HasOrder (exchanged a) (back o)
+turned_back : (a : SignSet) (o : Ordering) → HasSignOf a o → HasSignOf (exchanged a) (back o)
 unfolding back
 turned_back a Less h = h
 turned_back a Equal h = h
@@ -78,7 +78,7 @@ module _ (s : Sides) (allowed : SignSet) (rs : List Interval) (can : CanCompare 
   some_after : HaveSign allowed (signs_of l r) → is_some after ≡ true
   some_after h =
       let part = refined_some l r apart.scale allowed s.whole h.order apart.left apart.right can.ranges.left_whole can.ranges.right_whole h.left h.right in
-      let right = subst (λ t. HasOrder t (back h.order)) (sym (signs_back l r apart.scale)) (turned_back (signs_of l r) h.order h.right) in
+      let right = subst (λ t. HasSignOf t (back h.order)) (sym (signs_back l r apart.scale)) (turned_back (signs_of l r) h.order h.right) in
       let other = refined_some r l (sym apart.scale) (exchanged allowed) s.whole (back h.order) apart.right apart.left can.ranges.right_whole can.ranges.left_whole (turned_back allowed h.order h.left) right in
       let first = narrows s.left.variable (against r allowed s.whole) rs l part.0 can.left part.1 in
       let stays : (n : ℕ) → s.right.variable ≡ Some n → slice_get first.after n ≡ Some r =

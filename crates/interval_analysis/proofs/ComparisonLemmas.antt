@@ -20,7 +20,7 @@ use Rattle.pap_tree.specs.Numbering.{nodes}
 use Rattle.interval_num.specs.declared.sign_set.SignSet.{SignSet}
 use Rattle.interval_num.specs.Intervals.{Interval, IsWhole}
 use Rattle.interval_num.specs.Alignment.{Align}
-use Rattle.interval_num.specs.Rows.{Answer, comparison_row}
+use Rattle.interval_num.specs.Rows.{RowAnswer, comparison_row}
 use Rattle.pap_types.specs.declared.kinds.NodeKind.{NodeKind}
 use Rattle.pap_types.specs.declared.kinds.NodeKind.TheVariants as kinds
 use Rattle.pap_types.specs.Safety.{bits_of}
@@ -336,7 +336,7 @@ have_shapes w e f at rs o can h = record { left = left_shape w at rs e f o can h
 pub order_aligned : (op : Binary) (k : ℤ) (a b : Interval) (n : ℕ) (r : Interval) → order_node op k a b n ≡ Ok r → Align a b
 order_aligned op k a b n r h = by (comparison_row a b) refl h
   where
-    by : (q : Answer) → comparison_row a b ≡ q → and_then (at_node n q) (λ c. and_then (at_node (n + 1) (read_range kinds.Int (single (whole_decimal k)))) (λ l. at_node (n + 2) (comparison_range op c l))) ≡ Ok r → Align a b
+    by : (q : RowAnswer) → comparison_row a b ≡ q → and_then (at_node n q) (λ c. and_then (at_node (n + 1) (read_range kinds.Int (single (whole_decimal k)))) (λ l. at_node (n + 2) (comparison_range op c l))) ≡ Ok r → Align a b
     by (Ok c) e h = comparison_row_aligned a b c e
     by (Err c) e h = absurd (cc)
 

@@ -5,7 +5,7 @@ use Rattle.std.specs.Result.{IsErrAnd}
 use Rattle.pap_tree.specs.Term.{Term, item, One, one, Two, two}
 use Rattle.pap_tree.specs.Numbering.{nodes}
 use Rattle.interval_num.specs.Intervals.{Interval}
-use Rattle.interval_num.specs.Rows.{Answer, join_row}
+use Rattle.interval_num.specs.Rows.{RowAnswer, join_row}
 use Rattle.pap_types.specs.declared.kinds.NodeKind.{NodeKind}
 use Rattle.pap_types.specs.declared.kinds.NodeKind.TheVariants.{Big}
 use Rattle.pap_types.specs.Kinds.{kind_of, kind_of_one, kind_of_two, wider}
@@ -78,7 +78,7 @@ module _ (w : Walk) (at : ℕ) where
 
     -- ---- answers
 
-    answers : (t : Term) (answer : Answer) (k : NodeKind) (n : ℕ) (r : Result Ranged Stop) → ranged_in w t at rs ≡ at_node n answer → k ≡ kind_of scope t → n + 1 ≡ at + nodes t → None ≡ variable_in w.plan.now t → OwnAnswer answer k n r → RangeAnswer w t at rs r
+    answers : (t : Term) (answer : RowAnswer) (k : NodeKind) (n : ℕ) (r : Result Ranged Stop) → ranged_in w t at rs ≡ at_node n answer → k ≡ kind_of scope t → n + 1 ≡ at + nodes t → None ≡ variable_in w.plan.now t → OwnAnswer answer k n r → RangeAnswer w t at rs r
     answers t answer k n (Ok r) is kind next none h = record { range = is ∙ h.range; kind = h.kind ∙ kind; next = h.next ∙ next; variable = h.variable ∙ none }
     answers t answer k n (Err (At i c)) is kind next none h = is ∙ h
     answers t answer k n (Err Memory) is kind next none h = tt

@@ -15,7 +15,7 @@ use Rattle.scaled_decimal.specs.laws.IntegerLemmas.{le_times}
 use Rattle.interval_num.specs.declared.sign_set.SignSet.{SignSet}
 use Rattle.interval_num.specs.Intervals.{Interval, interval, IsWhole, HasKeptEnds}
 use Rattle.interval_num.specs.Alignment.{at_scale, greater_scale}
-use Rattle.interval_num.specs.Refinement.{refined, low_end, high_end, is_apart, without, gap}
+use Rattle.interval_num.specs.Refinement.{refined, low_end, high_end, is_apart, without_end, gap}
 use Rattle.interval_walk.specs.Branches.{exchanged}
 use Rattle.interval_analysis.specs.declared.comparisons.Against.{Against}
 use Rattle.interval_analysis.specs.declared.comparisons.Sides.{Sides}
@@ -62,13 +62,13 @@ cut_within v e s w = record {
   greatest = refl;
 }
 
-moved_within : (n : ℤ) (q v : Interval) → IsWithin q v → IsWithin (without n q) v
+moved_within : (n : ℤ) (q v : Interval) → IsWithin q v → IsWithin (without_end n q) v
 moved_within n q v h =
     let low = past_of (int_eq q.lo n) q.lo in
     let high = short_of_it (int_eq q.hi n) q.hi in
     record { low = omega (arith, ints, low, h.low); high = omega (arith, ints, high, h.high); least = h.least; greatest = h.greatest }
 
-either_within : (b : Bool) (n : ℤ) (q v : Interval) → IsWithin q v → IsWithin (if b then without n q else q) v
+either_within : (b : Bool) (n : ℤ) (q v : Interval) → IsWithin q v → IsWithin (if b then without_end n q else q) v
 either_within true n q v h = moved_within n q v h
 either_within false n q v h = h
 
@@ -82,7 +82,7 @@ kept_part q v r false h e is = absurd (cc)
 pub refined_part : (v e r : Interval) (s : SignSet) (w : Bool) → refined v e s w ≡ Some r → IsPart r v
 refined_part v e r s w is =
     let q = interval (low_end v e s w) (high_end v e s w) v.s_lo v.s_hi in
-    let p = if is_apart e s w then without e.lo q else q in
+    let p = if is_apart e s w then without_end e.lo q else q in
     kept_part p v r (int_le p.lo p.hi) (either_within (is_apart e s w) e.lo q v (cut_within v e s w)) refl is
 
 -- ---- a part may be refined by what the whole may be refined by

@@ -10,7 +10,7 @@ use Rattle.std.proofs.lemmas.Int.{ints}
 use Rattle.std.proofs.lemmas.Option.{none-some}
 use Rattle.scaled_decimal.specs.Decimals.{Decimal, decimal, numerator_of, numerator_at, scale_of, ten_to, value_order, lesser, greater}
 use Rattle.scaled_decimal.proofs.Laws.{ten_some, ten_add, times_assoc, times_swap, le_times, lt_times}
-use Rattle.limits_file.specs.Limits.{IsAtMost}
+use Rattle.limits_file.specs.Limits.{IsNoGreater}
 use Rattle.interval_num.specs.Intervals.{Interval, Contains}
 use Rattle.interval_analysis.specs.declared.value_range.ValueRange.{ValueRange}
 use Rattle.interval_analysis.specs.Surveys.{value_range, LiesWithin, IsLeastRange, IsLeastOf, HasValue}
@@ -31,10 +31,10 @@ told u v Less m f = refl
 told u v Equal m f = refl
 told u v Greater m f = absurd (omega (arith, ints))
 
-at_most_over : (a b : Decimal) → IsAtMost a b → over a b ≤ℤ over b a
+at_most_over : (a b : Decimal) → IsNoGreater a b → over a b ≤ℤ over b a
 at_most_over a b h = says (over a b) (over b a) (value_order a b) (int_ranks (over a b) (over b a)) h
 
-over_at_most : (a b : Decimal) → over a b ≤ℤ over b a → IsAtMost a b
+over_at_most : (a b : Decimal) → over a b ≤ℤ over b a → IsNoGreater a b
 over_at_most a b h = told (over a b) (over b a) (value_order a b) (int_ranks (over a b) (over b a)) h
 
 -- a factor above 0 cancels
@@ -46,10 +46,10 @@ le_cancel x y k some h = by_rank (int_cmp x y) (int_ranks x y)
     by_rank Equal m = omega (arith, ints)
     by_rank Greater m = (let less = lt_times y x k some m in absurd (omega (arith, ints)))
 
-pub at_most_itself : (a : Decimal) → IsAtMost a a
+pub at_most_itself : (a : Decimal) → IsNoGreater a a
 at_most_itself a = over_at_most a a (omega (arith, ints))
 
-pub at_most_then : (a b c : Decimal) → IsAtMost a b → IsAtMost b c → IsAtMost a c
+pub at_most_then : (a b c : Decimal) → IsNoGreater a b → IsNoGreater b c → IsNoGreater a c
 at_most_then a b c h g =
     let pa = 10 ^ scale_of a in
     let pb = 10 ^ scale_of b in
@@ -62,26 +62,26 @@ at_most_then a b c h g =
     over_at_most a c (le_cancel (over a c) (over c a) pb (ten_some (scale_of b)) (omega (arith, ints, first, second, left, middle, right)))
 
 -- of two decimals one is at most the other
-other_at_most : (a b : Decimal) → is_gt (value_order a b) ≡ true → IsAtMost b a
+other_at_most : (a b : Decimal) → is_gt (value_order a b) ≡ true → IsNoGreater b a
 other_at_most a b e = by_rank (value_order a b) (int_ranks (over a b) (over b a)) e
   where
-    by_rank : (o : Ordering) → MatchOrdering o (over a b <ℤ over b a) (over a b ≡ over b a) (over b a <ℤ over a b) → is_gt o ≡ true → IsAtMost b a
+    by_rank : (o : Ordering) → MatchOrdering o (over a b <ℤ over b a) (over a b ≡ over b a) (over b a <ℤ over a b) → is_gt o ≡ true → IsNoGreater b a
     by_rank Less m f = absurd (cc)
     by_rank Equal m f = absurd (cc)
     by_rank Greater m f = over_at_most b a (omega (arith, ints))
 
-less_at_most : (a b : Decimal) → is_lt (value_order a b) ≡ true → IsAtMost a b
+less_at_most : (a b : Decimal) → is_lt (value_order a b) ≡ true → IsNoGreater a b
 less_at_most a b e = by_order (value_order a b) refl e
   where
-    by_order : (o : Ordering) → value_order a b ≡ o → is_lt o ≡ true → IsAtMost a b
+    by_order : (o : Ordering) → value_order a b ≡ o → is_lt o ≡ true → IsNoGreater a b
     by_order Less o f = ap is_gt o
     by_order Equal o f = absurd (cc)
     by_order Greater o f = absurd (cc)
 
-not_less_at_most : (a b : Decimal) → is_lt (value_order a b) ≡ false → IsAtMost b a
+not_less_at_most : (a b : Decimal) → is_lt (value_order a b) ≡ false → IsNoGreater b a
 not_less_at_most a b e = by_rank (value_order a b) (int_ranks (over a b) (over b a)) e
   where
-    by_rank : (o : Ordering) → MatchOrdering o (over a b <ℤ over b a) (over a b ≡ over b a) (over b a <ℤ over a b) → is_lt o ≡ false → IsAtMost b a
+    by_rank : (o : Ordering) → MatchOrdering o (over a b <ℤ over b a) (over a b ≡ over b a) (over b a <ℤ over a b) → is_lt o ≡ false → IsNoGreater b a
     by_rank Less m f = absurd (cc)
     by_rank Equal m f = over_at_most b a (omega (arith, ints))
     by_rank Greater m f = over_at_most b a (omega (arith, ints))
@@ -89,13 +89,13 @@ not_less_at_most a b e = by_rank (value_order a b) (int_ranks (over a b) (over b
 -- ---- the lesser and the greater of two
 
 record IsLesser (a b d : Decimal) : Type 0 where
-  first : IsAtMost d a
-  second : IsAtMost d b
+  first : IsNoGreater d a
+  second : IsNoGreater d b
   one : (d ≡ a) ⊎ (d ≡ b)
 
 record IsGreater (a b d : Decimal) : Type 0 where
-  first : IsAtMost a d
-  second : IsAtMost b d
+  first : IsNoGreater a d
+  second : IsNoGreater b d
   one : (d ≡ a) ⊎ (d ≡ b)
 
 is_lesser : (a b : Decimal) → IsLesser a b (lesser a b)

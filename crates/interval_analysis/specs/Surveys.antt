@@ -10,7 +10,7 @@ use Rattle.std.specs.BTreeSet.{BTreeSet, contains}
 use Rattle.scaled_decimal.specs.Decimals.{Decimal, decimal, scale_of}
 use Rattle.pap_tree.specs.Flowchart.{Flowchart}
 use Rattle.limits_file.specs.declared.limits.Limits.{Limits}
-use Rattle.limits_file.specs.Limits.{IsAtMost}
+use Rattle.limits_file.specs.Limits.{IsNoGreater}
 use Rattle.interval_num.specs.Intervals.{Interval}
 use Rattle.pap_types.specs.Scopes.{Scope, scope_of}
 use Rattle.interval_walk.specs.Visits.{Visit, WalkComes, PutsRange, LeavesOpen, Execution, RunExecutes, PutsValue, TakesExit}
@@ -55,8 +55,8 @@ value_range a = record {
 
 -- each value of a range lies in another
 pub record LiesWithin (r s : ValueRange) : Type 0 where
-  pub least : IsAtMost s.least r.least
-  pub greatest : IsAtMost r.greatest s.greatest
+  pub least : IsNoGreater s.least r.least
+  pub greatest : IsNoGreater r.greatest s.greatest
   pub fewest_places : s.fewest_places ≤ r.fewest_places
   pub most_places : r.most_places ≤ s.most_places
 
@@ -88,8 +88,8 @@ AreLeastRanges f limits values =
 
 -- a value lies in a range
 pub record HasValue (r : ValueRange) (d : Decimal) : Type 0 where
-  pub least : IsAtMost r.least d
-  pub greatest : IsAtMost d r.greatest
+  pub least : IsNoGreater r.least d
+  pub greatest : IsNoGreater d r.greatest
   pub fewest_places : r.fewest_places ≤ scale_of d
   pub most_places : scale_of d ≤ r.most_places
 

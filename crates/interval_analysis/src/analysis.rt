@@ -131,7 +131,8 @@ fn walked_outputs(
 ) -> Result<Vec<OutputRange>, RangeFault>
     requires { HaveLimits (flowchart_of plan.now) limits.now }
     ensures outputs { OutputAnswer (analysed (flowchart_of plan.now) limits.now) result }
-    ensures visits { OnOk result (Gathers (scope_of (flowchart_of plan.now)) (WalkComes (flowchart_of plan.now) limits.now)
+    ensures visits { OnOk result
+        (Gathers (scope_of (flowchart_of plan.now)) (WalkComes (flowchart_of plan.now) limits.now)
         visits.old visits.new) }
 {
     let ranges = start_ranges(alloc, plan, limits)?;

@@ -9,8 +9,8 @@ use Rattle.scaled_decimal.specs.Limits.{IsWithinLimit}
 use Rattle.interval_num.specs.declared.cause.RangeCause.{RangeCause}
 use Rattle.interval_num.specs.declared.cause.RangeCause.TheVariants.{Wide}
 use Rattle.interval_num.specs.Intervals.{Interval, interval, Contains, HasKeptEnds}
-use Rattle.interval_num.specs.Alignment.{unless, is_beyond, ends_beyond, kept, at_scale, greater_scale, aligned, Align}
-use Rattle.interval_num.specs.Rows.{Answer}
+use Rattle.interval_num.specs.Alignment.{unless, is_beyond, ends_beyond, within_limit, at_scale, greater_scale, aligned, Align}
+use Rattle.interval_num.specs.Rows.{RowAnswer}
 use Rattle.interval_num.specs.Signs.{signs_at, signs_of}
 use Rattle.interval_num.proofs.NumberLemmas.{longer, times_one, within_in, within_out, kept_shorter, kept_between}
 
@@ -26,11 +26,11 @@ pub high_holds : (a : Interval) (x : Decimal) (q : ℕ) → Contains a x → a.s
 high_holds a x q h l = subst (λ z. z ≤ℤ (at_scale q a).hi) (at_greater x a.s_hi q h.greatest_scale l) (le_times (numerator_at a.s_hi x) a.hi (10 ^ (q - a.s_hi)) h.high)
 
 -- an answer that no cause refuses
-pub unless_ok : (t : Bool) (cause : RangeCause) (answer : Answer) (r : Interval) → unless t cause answer ≡ Ok r → (t ≡ false) × (answer ≡ Ok r)
+pub unless_ok : (t : Bool) (cause : RangeCause) (answer : RowAnswer) (r : Interval) → unless t cause answer ≡ Ok r → (t ≡ false) × (answer ≡ Ok r)
 unless_ok true cause answer r e = absurd (cc)
 unless_ok false cause answer r e = (refl, e)
 
-pub ok_is : (s r : Interval) → ◌≡◌ {A = Answer} (Ok s) (Ok r) → s ≡ r
+pub ok_is : (s r : Interval) → ◌≡◌ {A = RowAnswer} (Ok s) (Ok r) → s ≡ r
 ok_is s r e = cc
 
 either_false : (s t : Bool) → (s || t) ≡ false → (s ≡ false) × (t ≡ false)
@@ -42,15 +42,15 @@ ends_kept a e =
     let both = either_false (is_beyond a.lo) (is_beyond a.hi) e in
     record { low = within_out a.lo both.0; high = within_out a.hi both.1 }
 
-pub kept_ok : (a r : Interval) → kept a ≡ Ok r → HasKeptEnds a × (a ≡ r)
+pub kept_ok : (a r : Interval) → within_limit a ≡ Ok r → HasKeptEnds a × (a ≡ r)
 kept_ok a r e = let passed = unless_ok (ends_beyond a) Wide (Ok a) r e in (ends_kept a passed.0, cc (passed.1))
 
 -- what an aligned operation that answers has
-pub record IsMade (make : Interval → Interval → Answer) (a b r : Interval) : Type 0 where
+pub record IsMade (make : Interval → Interval → RowAnswer) (a b r : Interval) : Type 0 where
   pub align : Align a b
   pub made : make (at_scale (greater_scale a b) a) (at_scale (greater_scale a b) b) ≡ Ok r
 
-pub aligned_ok : (make : Interval → Interval → Answer) (a b r : Interval) → aligned make a b ≡ Ok r → IsMade make a b r
+pub aligned_ok : (make : Interval → Interval → RowAnswer) (a b r : Interval) → aligned make a b ≡ Ok r → IsMade make a b r
 aligned_ok make a b r e =
     let x = at_scale (greater_scale a b) a in
     let y = at_scale (greater_scale a b) b in
@@ -100,15 +100,15 @@ module _ (a b : Interval) (x y : Decimal) (hx : Contains a x) (hy : Contains b y
       }
 
 -- what an answer promises, where it is there
-pub if_ok : (o : Answer) (P : Interval → Type 0) → ((r : Interval) → o ≡ Ok r → P r) → IfOk o P
+pub if_ok : (o : RowAnswer) (P : Interval → Type 0) → ((r : Interval) → o ≡ Ok r → P r) → IfOk o P
 if_ok (Ok r) P f = f r refl
 if_ok (Err cause) P f = tt
 
-pub unless_passes : (t : Bool) (cause : RangeCause) (answer : Answer) → t ≡ false → unless t cause answer ≡ answer
+pub unless_passes : (t : Bool) (cause : RangeCause) (answer : RowAnswer) → t ≡ false → unless t cause answer ≡ answer
 unless_passes true cause answer e = absurd (cc)
 unless_passes false cause answer e = refl
 
-pub unless_refuses : (t : Bool) (cause : RangeCause) (answer : Answer) → t ≡ true → unless t cause answer ≡ Err cause
+pub unless_refuses : (t : Bool) (cause : RangeCause) (answer : RowAnswer) → t ≡ true → unless t cause answer ≡ Err cause
 unless_refuses true cause answer e = refl
 unless_refuses false cause answer e = absurd (cc)
 
@@ -135,5 +135,5 @@ module _ (a b : Interval) (same : a.s_hi ≡ b.s_hi) where
   pub signs_same : signs_of a b ≡ signs_at a b
   signs_same = cc (left_own, right_own)
 
-  pub aligned_same : (make : Interval → Interval → Answer) → HasKeptEnds a → HasKeptEnds b → aligned make a b ≡ make a b
+  pub aligned_same : (make : Interval → Interval → RowAnswer) → HasKeptEnds a → HasKeptEnds b → aligned make a b ≡ make a b
   aligned_same make left right = cc (left_own, right_own, ends_within a left, ends_within b right)

@@ -10,7 +10,7 @@ use Rattle.scaled_decimal.specs.Decimals.{numerator_of, scale_of, numerator_at, 
 use Rattle.scaled_decimal.specs.Limits.{IsWithinLimit, most_places}
 use Rattle.interval_num.specs.declared.cause.RangeCause.TheVariants.{Wide, Scale}
 use Rattle.interval_num.specs.Intervals.{Interval, Contains}
-use Rattle.interval_num.specs.Alignment.{unless, is_beyond, least, greatest, hull, corners, most}
+use Rattle.interval_num.specs.Alignment.{unless, is_beyond, least, greatest, hull, corners, greatest_magnitude}
 use Rattle.interval_num.specs.Rows.{product_row}
 use Rattle.interval_num.specs.Soundness.{ProductIsSound}
 use Rattle.interval_num.proofs.NumberLemmas.{longer, times_one, within_out, kept_shorter}
@@ -84,23 +84,23 @@ product_longer : (m n : ℤ) (i j k : ℕ) → i + j ≡ k → (m *ℤ n) *ℤ t
 product_longer m n i j k e = sym (longer (m *ℤ n) i j k e) ∙ ap (λ t. t *ℤ ten_to j) (times_swap m n (ten_to i)) ∙ times_assoc (m *ℤ ten_to i) n (ten_to j)
 
 -- a number between the ends is no greater than the greatest magnitude
-pub most_holds : (a : Interval) (z : ℤ) → a.lo ≤ℤ z → z ≤ℤ a.hi → unsigned_abs z ≤ unsigned_abs (most a)
+pub most_holds : (a : Interval) (z : ℤ) → a.lo ≤ℤ z → z ≤ℤ a.hi → unsigned_abs z ≤ unsigned_abs (greatest_magnitude a)
 most_holds a z p q = omega (arith, ints)
 
-pub product_kept : (a b : Interval) (x y : ℤ) → IsWithinLimit (most a *ℤ most b) → a.lo ≤ℤ x → x ≤ℤ a.hi → b.lo ≤ℤ y → y ≤ℤ b.hi → IsWithinLimit (x *ℤ y)
+pub product_kept : (a b : Interval) (x y : ℤ) → IsWithinLimit (greatest_magnitude a *ℤ greatest_magnitude b) → a.lo ≤ℤ x → x ≤ℤ a.hi → b.lo ≤ℤ y → y ≤ℤ b.hi → IsWithinLimit (x *ℤ y)
 product_kept a b x y kept p q r s =
     let left = most_holds a x p q in
     let right = most_holds b y r s in
-    let bound = mul-le (unsigned_abs x) (unsigned_abs y) (unsigned_abs (most a)) (unsigned_abs (most b)) left right in
+    let bound = mul-le (unsigned_abs x) (unsigned_abs y) (unsigned_abs (greatest_magnitude a)) (unsigned_abs (greatest_magnitude b)) left right in
     let size = unsigned_abs-mul x y in
-    let size' = unsigned_abs-mul (most a) (most b) in
+    let size' = unsigned_abs-mul (greatest_magnitude a) (greatest_magnitude b) in
     omega (arith, kept)
 
 pub product_sound : (a b r : Interval) → product_row a b ≡ Ok r → ProductIsSound a b r
 product_sound a b r e x y hx hy =
-    let few = unless_ok (nat_lt most_places (a.s_hi + b.s_hi)) Scale (unless (is_beyond (most a *ℤ most b)) Wide (Ok (hull (corners (λ m n. m *ℤ n) a b) (a.s_lo + b.s_lo) (a.s_hi + b.s_hi)))) r e in
-    let small = unless_ok (is_beyond (most a *ℤ most b)) Wide (Ok (hull (corners (λ m n. m *ℤ n) a b) (a.s_lo + b.s_lo) (a.s_hi + b.s_hi))) r few.1 in
-    let kept = within_out (most a *ℤ most b) small.0 in
+    let few = unless_ok (nat_lt most_places (a.s_hi + b.s_hi)) Scale (unless (is_beyond (greatest_magnitude a *ℤ greatest_magnitude b)) Wide (Ok (hull (corners (λ m n. m *ℤ n) a b) (a.s_lo + b.s_lo) (a.s_hi + b.s_hi)))) r e in
+    let small = unless_ok (is_beyond (greatest_magnitude a *ℤ greatest_magnitude b)) Wide (Ok (hull (corners (λ m n. m *ℤ n) a b) (a.s_lo + b.s_lo) (a.s_hi + b.s_hi))) r few.1 in
+    let kept = within_out (greatest_magnitude a *ℤ greatest_magnitude b) small.0 in
     let places : a.s_hi + b.s_hi ≤ most_places = let t = few.0 in grind (arith, nat_tests) in
     let u = numerator_at a.s_hi x in
     let v = numerator_at b.s_hi y in
@@ -127,7 +127,7 @@ pub record EndsKept (a b : Interval) : Type 0 where
   pub high_low : IsWithinLimit (a.hi *ℤ b.lo)
   pub high_high : IsWithinLimit (a.hi *ℤ b.hi)
 
-pub products_kept : (a b : Interval) → IsWithinLimit (most a *ℤ most b) → a.lo ≤ℤ a.hi → b.lo ≤ℤ b.hi → EndsKept a b
+pub products_kept : (a b : Interval) → IsWithinLimit (greatest_magnitude a *ℤ greatest_magnitude b) → a.lo ≤ℤ a.hi → b.lo ≤ℤ b.hi → EndsKept a b
 products_kept a b kept p q =
     let la = omega_le a.lo in
     let ha = omega_le a.hi in

@@ -11,7 +11,7 @@ use Rattle.scaled_decimal.specs.WorkingNumbers.{IsDivisorPlaces, ExactQuotientFi
 use Rattle.scaled_decimal.specs.Limits.{IsWithinLimit, most_places}
 use Rattle.interval_num.specs.declared.cause.RangeCause.TheVariants.{Scale}
 use Rattle.interval_num.specs.Intervals.{Interval, interval, Contains}
-use Rattle.interval_num.specs.Alignment.{kept}
+use Rattle.interval_num.specs.Alignment.{within_limit}
 use Rattle.interval_num.specs.PlainDivisors.{first_power, divisor_places, cofactor}
 use Rattle.interval_num.specs.Rows.{exact_quotient_row}
 use Rattle.interval_num.specs.Soundness.{ExactQuotientIsSound}
@@ -125,7 +125,7 @@ exact_quotient_sound d a r plain e x hx =
     let n = numerator_of x in
     let i = scale_of x in
     let wide = interval (a.lo *ℤ c) (a.hi *ℤ c) a.s_lo (a.s_hi + k) in
-    let few = unless_ok (nat_lt most_places (a.s_hi + k)) Scale (kept wide) r e in
+    let few = unless_ok (nat_lt most_places (a.s_hi + k)) Scale (within_limit wide) r e in
     let ends = kept_ok wide r few.1 in
     let places : a.s_hi + k ≤ most_places = let t = few.0 in grind (arith, nat_tests) in
     let u = numerator_at a.s_hi x in

@@ -13,8 +13,8 @@ use Rattle.scaled_decimal.specs.Limits.{IsWithinLimit}
 use Rattle.interval_num.specs.declared.cause.RangeCause.TheVariants.{Wide}
 use Rattle.interval_num.specs.Intervals.{Interval, interval}
 use Rattle.interval_num.specs.Alignment.{unless, is_beyond, ends_beyond, at_scale, least, greatest, hull}
-use Rattle.interval_num.specs.Rows.{Answer, join_of, least_scale, greatest_scale, decimals_row}
-use Rattle.interval_num.specs.ItemLevels.{joined}
+use Rattle.interval_num.specs.Rows.{RowAnswer, join_of, least_scale, greatest_scale, decimals_row}
+use Rattle.interval_num.specs.ItemLevels.{joined_answers}
 use Rattle.interval_num.proofs.NumberLemmas.{times_one, within_in, within_out, kept_shorter, kept_between}
 use Rattle.interval_num.proofs.AlignmentLemmas.{at_greater}
 use Rattle.interval_num.proofs.ItemLemmas.{least_member, greatest_member, greatest_scale_holds}
@@ -239,7 +239,7 @@ any_at_greater ds q le e =
     ap (list_any is_beyond) (numerators_longer ds p q (greatest_scale_holds ds) le) ∙ any_longer (q - p) (map (numerator_at p) ds) e
 
 -- what an aligned join makes of two intervals at one scale
-join_at : Interval → Interval → Answer
+join_at : Interval → Interval → RowAnswer
 join_at x y = unless (ends_beyond x || ends_beyond y) Wide (join_of x y)
 
 module _ (xs ys : List Decimal) (some : 0 < length xs) (other : 0 < length ys) where
@@ -255,7 +255,7 @@ module _ (xs ys : List Decimal) (some : 0 < length xs) (other : 0 < length ys) w
   abbrev together : Interval
   together = interval (int_min (least (numerators xs q)) (least (numerators ys q))) (int_max (greatest (numerators xs q)) (greatest (numerators ys q))) (min (least_scale xs) (least_scale ys)) q
 
-  abbrev answer : Answer
+  abbrev answer : RowAnswer
   answer = unless (list_any is_beyond (numerators xs q) || list_any is_beyond (numerators ys q)) Wide (Ok together)
 
   whole_row : decimals_row (xs ++ ys) ≡ answer
@@ -272,7 +272,7 @@ module _ (xs ys : List Decimal) (some : 0 < length xs) (other : 0 < length ys) w
       ap (λ k. unless (list_any is_beyond (map (numerator_at k) (xs ++ ys))) Wide (Ok (hull (map (numerator_at k) (xs ++ ys)) (least_scale (xs ++ ys)) k))) (greatest_scale_parts xs ys)
       ∙ ap₂ (λ t r. unless t Wide (Ok r)) test made
 
-  joined_both : joined (Ok a) (Ok b) ≡ answer
+  joined_both : joined_answers (Ok a) (Ok b) ≡ answer
   unfolding numerators join_at
   joined_both =
       let front = length_map (numerator_at q) xs in
@@ -283,11 +283,11 @@ module _ (xs ys : List Decimal) (some : 0 < length xs) (other : 0 < length ys) w
       let second = ends_any (map (numerator_at q) ys) (omega arith) in
       ap₂ join_at left right ∙ ap₂ (λ s t. unless (s || t) Wide (Ok together)) first second
 
-  by_tests : (s t : Bool) → list_any is_beyond (numerators xs (greatest_scale xs)) ≡ s → list_any is_beyond (numerators ys (greatest_scale ys)) ≡ t → answer ≡ joined (unless s Wide (Ok a)) (unless t Wide (Ok b))
+  by_tests : (s t : Bool) → list_any is_beyond (numerators xs (greatest_scale xs)) ≡ s → list_any is_beyond (numerators ys (greatest_scale ys)) ≡ t → answer ≡ joined_answers (unless s Wide (Ok a)) (unless t Wide (Ok b))
   by_tests true t e f = let beyond = any_at_greater xs q (omega arith) e in rw beyond refl
   by_tests false true e f = let beyond = any_at_greater ys q (omega arith) f in rw (beyond, either_true (list_any is_beyond (numerators xs q))) refl
   by_tests false false e f = sym joined_both
 
-  pub joined_rows : decimals_row (xs ++ ys) ≡ joined (decimals_row xs) (decimals_row ys)
+  pub joined_rows : decimals_row (xs ++ ys) ≡ joined_answers (decimals_row xs) (decimals_row ys)
   unfolding numerators
   joined_rows = whole_row ∙ by_tests (list_any is_beyond (numerators xs (greatest_scale xs))) (list_any is_beyond (numerators ys (greatest_scale ys))) refl refl

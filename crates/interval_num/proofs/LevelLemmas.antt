@@ -1,17 +1,17 @@
--- Levels of ranges, each with the joined ranges of two neighbours of the one before.
+-- Levels of ranges, each with the joined_answers ranges of two neighbours of the one before.
 use Rattle.std.proofs.Common.{◌≡◌, ℕ, zero, suc, ◌+◌, ◌-◌, ◌*◌, ◌/◌, ◌<◌, ◌≤◌, List, [], ◌∷◌, ◌++◌, length, map, take, drop, get_or, All, Some, refl, sym, ap, ap₂, ◌∙◌, arith, append_assoc}
 use Rattle.std.specs.Prelude.{slice_get, slice_range}
 use Rattle.std.proofs.lemmas.List.{append-nil, length-append, take_rest, take_more, drop_more, get_or-drop, length-drop, take-map, drop-map}
 use Rattle.std.proofs.lemmas.List.Elements.{All-head, All-tail, All-nil, All-cons, All-get_or}
 use Rattle.scaled_decimal.specs.Decimals.{Decimal}
-use Rattle.interval_num.specs.Rows.{Answer, decimals_row}
-use Rattle.interval_num.specs.ItemLevels.{joined, halved, first_level, single_rows, AreLevels}
+use Rattle.interval_num.specs.Rows.{RowAnswer, decimals_row}
+use Rattle.interval_num.specs.ItemLevels.{joined_answers, halved, first_level, single_rows, AreLevels}
 use Rattle.interval_num.specs.private.Views.{IsSome, items_of}
 use Rattle.interval_num.proofs.JoinLemmas.{joined_rows}
 
 -- ---- the loop that halves
 
-pub halved_next : (rs : List Answer) (i : ℕ) (left right : Answer) → slice_get rs (2 * i) ≡ Some left → slice_get rs (2 * i + 1) ≡ Some right → halved (take (2 * (i + 1)) rs) ≡ halved (take (2 * i) rs) ++ (joined left right ∷ [])
+pub halved_next : (rs : List RowAnswer) (i : ℕ) (left right : RowAnswer) → slice_get rs (2 * i) ≡ Some left → slice_get rs (2 * i + 1) ≡ Some right → halved (take (2 * (i + 1)) rs) ≡ halved (take (2 * i) rs) ++ (joined_answers left right ∷ [])
 halved_next [] zero left right e f = absurd (cc)
 halved_next (r ∷ []) zero left right e f = absurd (cc)
 halved_next (r ∷ (s ∷ rs)) zero left right e f = let same : r ≡ left = cc in let next : s ≡ right = cc in rw (same, next) refl
@@ -26,9 +26,9 @@ halved_next (r ∷ (s ∷ rs)) (suc i) left right e f =
     let odd : 2 * suc i + 1 ≡ suc (suc (2 * i + 1)) = omega arith in
     let first : slice_get rs (2 * i) ≡ Some left = ap (slice_get (r ∷ (s ∷ rs))) (sym two) ∙ e in
     let second : slice_get rs (2 * i + 1) ≡ Some right = ap (slice_get (r ∷ (s ∷ rs))) (sym odd) ∙ f in
-    rw (two, more) (ap (λ hs. joined r s ∷ hs) (halved_next rs i left right first second))
+    rw (two, more) (ap (λ hs. joined_answers r s ∷ hs) (halved_next rs i left right first second))
 
-pub halved_last : (rs : List Answer) (i : ℕ) (last : Answer) → length rs ≡ 2 * i + 1 → slice_get rs (2 * i) ≡ Some last → halved rs ≡ halved (take (2 * i) rs) ++ (last ∷ [])
+pub halved_last : (rs : List RowAnswer) (i : ℕ) (last : RowAnswer) → length rs ≡ 2 * i + 1 → slice_get rs (2 * i) ≡ Some last → halved rs ≡ halved (take (2 * i) rs) ++ (last ∷ [])
 halved_last [] i last size e = absurd (omega arith)
 halved_last (r ∷ []) zero last size e = let same : r ≡ last = cc in rw same refl
 halved_last (r ∷ []) (suc i) last size e = absurd (omega arith)
@@ -36,15 +36,15 @@ halved_last (r ∷ (s ∷ rs)) zero last size e = absurd (omega arith)
 halved_last (r ∷ (s ∷ rs)) (suc i) last size e =
     let two : 2 * suc i ≡ suc (suc (2 * i)) = omega arith in
     let first : slice_get rs (2 * i) ≡ Some last = ap (slice_get (r ∷ (s ∷ rs))) (sym two) ∙ e in
-    rw two (ap (λ hs. joined r s ∷ hs) (halved_last rs i last (omega arith) first))
+    rw two (ap (λ hs. joined_answers r s ∷ hs) (halved_last rs i last (omega arith) first))
 
-pub halved_length : (rs : List Answer) → length rs ≤ 2 * length (halved rs)
+pub halved_length : (rs : List RowAnswer) → length rs ≤ 2 * length (halved rs)
 halved_length [] = omega arith
 halved_length (r ∷ []) = omega arith
 halved_length (r ∷ (s ∷ rs)) = let rest = halved_length rs in omega arith
 
 -- a level of two ranges or more gets shorter
-pub halved_shorter : (rs : List Answer) → 2 * length (halved rs) ≤ length rs + 1
+pub halved_shorter : (rs : List RowAnswer) → 2 * length (halved rs) ≤ length rs + 1
 halved_shorter [] = omega arith
 halved_shorter (r ∷ []) = omega arith
 halved_shorter (r ∷ (s ∷ rs)) = let rest = halved_shorter rs in omega arith
@@ -117,28 +117,28 @@ pairs_range runs i j =
 
 -- ---- the levels above the first
 
-pub record IsHalved (levels above : List (List Answer)) : Type 0 where
+pub record IsHalved (levels above : List (List RowAnswer)) : Type 0 where
   pub halves : AreLevels above
   pub first : first_level above ≡ halved (first_level levels)
 
-pub above_halved : (levels : List (List Answer)) → AreLevels levels → 1 < length (first_level levels) → IsHalved levels (take (length levels - 1) (drop 1 levels))
+pub above_halved : (levels : List (List RowAnswer)) → AreLevels levels → 1 < length (first_level levels) → IsHalved levels (take (length levels - 1) (drop 1 levels))
 above_halved [] h more = absurd (omega arith)
 above_halved (level ∷ []) h more = absurd (omega (arith, h))
 above_halved (level ∷ (next ∷ levels)) h more =
     let whole = take_rest (level ∷ (next ∷ levels)) 1 in
     rw whole (record { halves = h.1; first = h.0 })
 
-pub level_is : (levels : List (List Answer)) (level : List Answer) → 0 < length (first_level levels) → level ≡ get_or levels 0 level → level ≡ first_level levels
+pub level_is : (levels : List (List RowAnswer)) (level : List RowAnswer) → 0 < length (first_level levels) → level ≡ get_or levels 0 level → level ≡ first_level levels
 level_is [] level some e = absurd (omega arith)
 level_is (first ∷ levels) level some e = e
 
-pub first_stays : (levels : List (List Answer)) (level : List Answer) (rest : List (List Answer)) → first_level (levels ++ (level ∷ rest)) ≡ first_level (levels ++ (level ∷ []))
+pub first_stays : (levels : List (List RowAnswer)) (level : List RowAnswer) (rest : List (List RowAnswer)) → first_level (levels ++ (level ∷ rest)) ≡ first_level (levels ++ (level ∷ []))
 first_stays [] level rest = refl
 first_stays (first ∷ levels) level rest = refl
 
 -- ---- the parts of a query
 
-run_at : (runs : List (List Decimal)) (i : ℕ) (r : Answer) → slice_get (map decimals_row runs) i ≡ Some r → r ≡ decimals_row (get_or runs i [])
+run_at : (runs : List (List Decimal)) (i : ℕ) (r : RowAnswer) → slice_get (map decimals_row runs) i ≡ Some r → r ≡ decimals_row (get_or runs i [])
 run_at [] i r e = absurd (cc)
 run_at (run ∷ runs) zero r e = cc
 run_at (run ∷ runs) (suc i) r e = run_at runs i r e
@@ -165,8 +165,8 @@ items_parts : (xs ys : List (List Decimal)) → items_of (xs ++ ys) ≡ items_of
 items_parts [] ys = refl
 items_parts (x ∷ xs) ys = ap (λ ds. x ++ ds) (items_parts xs ys) ∙ sym (append_assoc x (items_of xs) (items_of ys))
 
-module _ (rs : List Answer) (runs : List (List Decimal)) (all : All IsSome runs) (is : rs ≡ map decimals_row runs) where
-  run_of : (i : ℕ) (r : Answer) → slice_get rs i ≡ Some r → r ≡ decimals_row (get_or runs i [])
+module _ (rs : List RowAnswer) (runs : List (List Decimal)) (all : All IsSome runs) (is : rs ≡ map decimals_row runs) where
+  run_of : (i : ℕ) (r : RowAnswer) → slice_get rs i ≡ Some r → r ≡ decimals_row (get_or runs i [])
   run_of i r e = run_at runs i r (ap (λ xs. slice_get xs i) (sym is) ∙ e)
 
   size : length rs ≡ length runs
@@ -182,7 +182,7 @@ module _ (rs : List Answer) (runs : List (List Decimal)) (all : All IsSome runs)
       omega arith
 
   -- a single run
-  pub one_run : (i j : ℕ) (r : Answer) → i < j → j ≤ length rs → j - i ≡ 1 → slice_get rs i ≡ Some r → r ≡ decimals_row (items_of (slice_range runs i j))
+  pub one_run : (i j : ℕ) (r : RowAnswer) → i < j → j ≤ length rs → j - i ≡ 1 → slice_get rs i ≡ Some r → r ≡ decimals_row (items_of (slice_range runs i j))
   one_run i j r h inside one e =
       let here = size in
       let none : j - (i + 1) ≡ 0 = omega arith in
@@ -190,23 +190,23 @@ module _ (rs : List Answer) (runs : List (List Decimal)) (all : All IsSome runs)
       run_of i r e ∙ ap decimals_row (sym (ap items_of (range_first runs i j h (omega arith)) ∙ rest))
 
   -- the first run, and the others
-  pub first_run : (i j : ℕ) (r s : Answer) → i + 1 < j → j ≤ length rs → slice_get rs i ≡ Some r → s ≡ decimals_row (items_of (slice_range runs (i + 1) j)) → joined r s ≡ decimals_row (items_of (slice_range runs i j))
+  pub first_run : (i j : ℕ) (r s : RowAnswer) → i + 1 < j → j ≤ length rs → slice_get rs i ≡ Some r → s ≡ decimals_row (items_of (slice_range runs (i + 1) j)) → joined_answers r s ≡ decimals_row (items_of (slice_range runs i j))
   first_run i j r s h inside e f =
       let here = size in
       let run = get_or runs i [] in
       let others = items_of (slice_range runs (i + 1) j) in
-      ap₂ joined (run_of i r e) f
+      ap₂ joined_answers (run_of i r e) f
       ∙ sym (joined_rows run others (run_some i (omega arith)) (range_some (i + 1) j h (omega arith)))
       ∙ ap (λ xs. decimals_row (items_of xs)) (sym (range_first runs i j (omega arith) (omega arith)))
 
   -- the last run, and those before it
-  pub last_run : (i j : ℕ) (r s : Answer) → i + 1 < j → j ≤ length rs → slice_get rs (j - 1) ≡ Some r → s ≡ decimals_row (items_of (slice_range runs i (j - 1))) → joined s r ≡ decimals_row (items_of (slice_range runs i j))
+  pub last_run : (i j : ℕ) (r s : RowAnswer) → i + 1 < j → j ≤ length rs → slice_get rs (j - 1) ≡ Some r → s ≡ decimals_row (items_of (slice_range runs i (j - 1))) → joined_answers s r ≡ decimals_row (items_of (slice_range runs i j))
   last_run i j r s h inside e f =
       let here = size in
       let run = get_or runs (j - 1) [] in
       let others = items_of (slice_range runs i (j - 1)) in
       let parts = items_parts (slice_range runs i (j - 1)) (run ∷ []) ∙ ap (λ ds. others ++ ds) (append-nil run) in
-      ap₂ joined f (run_of (j - 1) r e)
+      ap₂ joined_answers f (run_of (j - 1) r e)
       ∙ sym (joined_rows others run (range_some i (j - 1) (omega arith) (omega arith)) (run_some (j - 1) (omega arith)))
       ∙ ap decimals_row (sym parts)
       ∙ ap (λ xs. decimals_row (items_of xs)) (sym (range_last runs i j (omega arith) (omega arith)))
@@ -215,7 +215,7 @@ module _ (rs : List Answer) (runs : List (List Decimal)) (all : All IsSome runs)
   pub above_rows : halved rs ≡ map decimals_row (pairs runs)
   above_rows = ap halved is ∙ halved_rows runs all
 
-  pub even_runs : (i j : ℕ) (r : Answer) → 2 * (i / 2) ≡ i → 2 * (j / 2) ≡ j → r ≡ decimals_row (items_of (slice_range (pairs runs) (i / 2) (j / 2))) → r ≡ decimals_row (items_of (slice_range runs i j))
+  pub even_runs : (i j : ℕ) (r : RowAnswer) → 2 * (i / 2) ≡ i → 2 * (j / 2) ≡ j → r ≡ decimals_row (items_of (slice_range (pairs runs) (i / 2) (j / 2))) → r ≡ decimals_row (items_of (slice_range runs i j))
   even_runs i j r e f is =
       is ∙ ap decimals_row (pairs_range runs (i / 2) (j / 2)) ∙ ap₂ (λ m n. decimals_row (items_of (slice_range runs m n))) e f
 

@@ -11,7 +11,7 @@ use Rattle.scaled_decimal.specs.Limits.{IsWithinLimit}
 use Rattle.interval_num.specs.declared.sign_set.SignSet.{SignSet}
 use Rattle.interval_num.specs.Intervals.{Interval, interval, Contains}
 use Rattle.interval_num.specs.Alignment.{at_scale, greater_scale}
-use Rattle.interval_num.specs.Signs.{signs_at, signs_of, least_sign, greatest_sign, HasOrder}
+use Rattle.interval_num.specs.Signs.{signs_at, signs_of, least_sign, greatest_sign, HasSignOf}
 use Rattle.interval_num.specs.Rows.{min_of, min_row, max_of, max_row, comparison_of, comparison_row}
 use Rattle.interval_num.specs.Soundness.{MinIsSound, MaxIsSound, ComparisonIsSound, SignsAreSound}
 use Rattle.interval_num.proofs.NumberLemmas.{longer, ten_some, times_one}
@@ -52,7 +52,7 @@ pub is_most : (u v : ℤ) → u ≤ℤ v → int_le u v ≡ true
 is_most u v le = sym (true_is_le u v (le_out u v le))
 
 -- the signs that the ends allow have that of two numbers between them
-sign_of : (x y : Interval) (u v : ℤ) (o : Ordering) → x.lo ≤ℤ u → u ≤ℤ x.hi → y.lo ≤ℤ v → v ≤ℤ y.hi → Ranks o u v → HasOrder (signs_at x y) o
+sign_of : (x y : Interval) (u v : ℤ) (o : Ordering) → x.lo ≤ℤ u → u ≤ℤ x.hi → y.lo ≤ℤ v → v ≤ℤ y.hi → Ranks o u v → HasSignOf (signs_at x y) o
 sign_of x y u v Less xl xh yl yh lt = is_less x.lo y.hi (omega (arith, ints))
 sign_of x y u v Equal xl xh yl yh e = let f = is_most x.lo y.hi (omega (arith, ints)) in let g = is_most y.lo x.hi (omega (arith, ints)) in rw (f, g) refl
 sign_of x y u v Greater xl xh yl yh gt = is_less y.lo x.hi (omega (arith, ints))
@@ -63,7 +63,7 @@ signs_sound a b x y hx hy =
     sign_of (at_scale q a) (at_scale q b) (numerator_at q x) (numerator_at q y) (value_order x y) (left_low a b x y hx hy) (left_high a b x y hx hy) (right_low a b x y hx hy) (right_high a b x y hx hy) (ranked x y q (omega (arith, hx.greatest_scale)) (omega (arith, hy.greatest_scale)))
 
 -- a set's numbers hold that of each of its signs
-sign_low : (s : SignSet) (o : Ordering) → HasOrder s o → least_sign s ≤ℤ order_number o
+sign_low : (s : SignSet) (o : Ordering) → HasSignOf s o → least_sign s ≤ℤ order_number o
 sign_low s Less h = rw h (omega (arith, ints))
 sign_low s Equal h = by_minus s.minus
   where
@@ -77,7 +77,7 @@ sign_low s Greater h = by_two s.minus s.zero
     by_two false true = omega (arith, ints)
     by_two false false = omega (arith, ints)
 
-sign_high : (s : SignSet) (o : Ordering) → HasOrder s o → order_number o ≤ℤ greatest_sign s
+sign_high : (s : SignSet) (o : Ordering) → HasSignOf s o → order_number o ≤ℤ greatest_sign s
 sign_high s Greater h = rw h (omega (arith, ints))
 sign_high s Equal h = by_plus s.plus
   where

@@ -9,7 +9,7 @@ use Rattle.std.proofs.lemmas.Int.{ints, clamps}
 use Rattle.scaled_decimal.specs.Decimals.{decimal, numerator_at, ten_to, value_order}
 use Rattle.interval_num.specs.declared.sign_set.SignSet.{SignSet}
 use Rattle.interval_num.specs.Intervals.{Interval, Contains, IsKeptInterval, IsWhole}
-use Rattle.interval_num.specs.Signs.{HasOrder, signs_at, signs_of}
+use Rattle.interval_num.specs.Signs.{HasSignOf, signs_at, signs_of}
 use Rattle.interval_num.specs.Refinement.{refined}
 use Rattle.interval_num.proofs.NumberLemmas.{times_one}
 use Rattle.interval_num.proofs.AlignmentLemmas.{signs_same}
@@ -46,7 +46,7 @@ record HavePair (v e : Interval) (o : Ordering) : Type 0 where
   right_high : right ≤ℤ e.hi
   ranks : Ranks o left right
 
-pair_of : (v e : Interval) (o : Ordering) → v.lo ≤ℤ v.hi → e.lo ≤ℤ e.hi → HasOrder (signs_at v e) o → HavePair v e o
+pair_of : (v e : Interval) (o : Ordering) → v.lo ≤ℤ v.hi → e.lo ≤ℤ e.hi → HasSignOf (signs_at v e) o → HavePair v e o
 pair_of v e Less p q h = record {
   left = v.lo;
   right = e.hi;
@@ -82,14 +82,14 @@ pair_of v e Greater p q h = record {
 module _ (v e : Interval) (same : v.s_hi ≡ e.s_hi) where
   -- a sign that is allowed, and that the intervals may have, leaves some of the first
   pub refined_some : (allowed : SignSet) (whole : Bool) (o : Ordering) → IsKeptInterval v → IsKeptInterval e → OnTrue whole (IsWhole v) → OnTrue whole (IsWhole e)
-      → HasOrder allowed o → HasOrder (signs_of v e) o → (r : Interval) × (refined v e allowed whole ≡ Some r)
+      → HasSignOf allowed o → HasSignOf (signs_of v e) o → (r : Interval) × (refined v e allowed whole ≡ Some r)
   refined_some allowed whole o kv ke wv we h between =
-      let pair = pair_of v e o kv.order ke.order (subst (λ s. HasOrder s o) (signs_same v e same) between) in
+      let pair = pair_of v e o kv.order ke.order (subst (λ s. HasSignOf s o) (signs_same v e same) between) in
       let x = decimal pair.left v.s_hi in
       let y = decimal pair.right v.s_hi in
       let hx = contained v pair.left v.s_hi kv refl pair.left_low pair.left_high in
       let hy = contained e pair.right v.s_hi ke (sym same) pair.right_low pair.right_high in
-      let sign = subst (HasOrder allowed) (own_order pair.left pair.right v.s_hi o pair.ranks) h in
+      let sign = subst (HasSignOf allowed) (own_order pair.left pair.right v.s_hi o pair.ranks) h in
       let part = kept_part v e allowed whole x y hx hy (compared v e allowed x y hx hy sign) wv we in
       (part.0, part.1)
 

@@ -15,8 +15,8 @@ use Rattle.scaled_decimal.specs.WorkingNumbers.{QuotientFits, RescaleFits}
 use Rattle.scaled_decimal.specs.Limits.{IsWithinLimit, most_places}
 use Rattle.interval_num.specs.declared.cause.RangeCause.TheVariants.{Wide, Divisor}
 use Rattle.interval_num.specs.Intervals.{Interval, interval, Contains, IsKeptInterval}
-use Rattle.interval_num.specs.Alignment.{unless, is_beyond, hull, corners, most, has_zero}
-use Rattle.interval_num.specs.Rows.{Answer, most_power, quotient_is_wide, end_quotient, quotient_row, end_value, rescaled_row}
+use Rattle.interval_num.specs.Alignment.{unless, is_beyond, hull, corners, greatest_magnitude, has_zero}
+use Rattle.interval_num.specs.Rows.{RowAnswer, most_power, quotient_is_wide, end_quotient, quotient_row, end_value, rescaled_row}
 use Rattle.interval_num.specs.Soundness.{QuotientIsSound, RescalingIsSound}
 use Rattle.interval_num.proofs.NumberLemmas.{longer, ten_add, ten_some, times_one, power_kept, within_out, kept_shorter}
 use Rattle.interval_num.proofs.AlignmentLemmas.{unless_ok, ok_is}
@@ -127,18 +127,18 @@ either_false false t e = (refl, e)
 pub record CanDivideIntervals (s : ℕ) (a b : Interval) : Type 0 where
   pub some : has_zero b ≡ false
   pub power : s + b.s_hi - a.s_lo ≤ most_power
-  pub dividend : IsWithinLimit (most a *ℤ ten_to (s + b.s_hi - a.s_hi))
-  pub divisor : IsWithinLimit (most b *ℤ ten_to (a.s_hi - (s + b.s_hi)))
+  pub dividend : IsWithinLimit (greatest_magnitude a *ℤ ten_to (s + b.s_hi - a.s_hi))
+  pub divisor : IsWithinLimit (greatest_magnitude b *ℤ ten_to (a.s_hi - (s + b.s_hi)))
 
 pub tests_pass : (s : ℕ) (a b : Interval) → has_zero b ≡ false → quotient_is_wide s a b ≡ false → CanDivideIntervals s a b
 tests_pass s a b e f =
     let first = either_false (nat_lt most_power (s + b.s_hi - a.s_lo)) _ f in
-    let second = either_false (is_beyond (most a *ℤ ten_to (s + b.s_hi - a.s_hi))) (is_beyond (most b *ℤ ten_to (a.s_hi - (s + b.s_hi)))) first.1 in
+    let second = either_false (is_beyond (greatest_magnitude a *ℤ ten_to (s + b.s_hi - a.s_hi))) (is_beyond (greatest_magnitude b *ℤ ten_to (a.s_hi - (s + b.s_hi)))) first.1 in
     record {
       some = e;
       power = not_more most_power (s + b.s_hi - a.s_lo) first.0;
-      dividend = within_out (most a *ℤ ten_to (s + b.s_hi - a.s_hi)) second.0;
-      divisor = within_out (most b *ℤ ten_to (a.s_hi - (s + b.s_hi))) second.1;
+      dividend = within_out (greatest_magnitude a *ℤ ten_to (s + b.s_hi - a.s_hi)) second.0;
+      divisor = within_out (greatest_magnitude b *ℤ ten_to (a.s_hi - (s + b.s_hi))) second.1;
     }
 
 -- what a quotient's row says where it answers
@@ -148,7 +148,7 @@ pub record QuotientPasses (mode : Mode) (s : ℕ) (a b r : Interval) : Type 0 wh
 
 pub quotient_passes : (mode : Mode) (s : ℕ) (a b r : Interval) → quotient_row mode s a b ≡ Ok r → QuotientPasses mode s a b r
 quotient_passes mode s a b r e =
-    let answer : Answer = Ok (hull (corners (end_quotient mode s a b) a b) s s) in
+    let answer : RowAnswer = Ok (hull (corners (end_quotient mode s a b) a b) s s) in
     let p = unless_ok (has_zero b) Divisor (unless (quotient_is_wide s a b) Wide answer) r e in
     let q = unless_ok (quotient_is_wide s a b) Wide answer r p.1 in
     record { tests = tests_pass s a b p.0 q.0; is = ok_is _ r q.1 }
@@ -160,8 +160,8 @@ can_divide s a b x y few places pass hx hy =
     let j = scale_of y in
     let u = numerator_at a.s_hi x in
     let v = numerator_at b.s_hi y in
-    let left = kept_less (most a) u (s + b.s_hi - a.s_hi) (most_holds a u hx.low hx.high) pass.dividend in
-    let right = kept_less (most b) v (a.s_hi - (s + b.s_hi)) (most_holds b v hy.low hy.high) pass.divisor in
+    let left = kept_less (greatest_magnitude a) u (s + b.s_hi - a.s_hi) (most_holds a u hx.low hx.high) pass.dividend in
+    let right = kept_less (greatest_magnitude b) v (a.s_hi - (s + b.s_hi)) (most_holds b v hy.low hy.high) pass.divisor in
     record {
       some = λ e. divisor_some b v hy.low hy.high pass.some (rw e (omega (arith, ints)));
       power = omega (arith, pass.power, hx.least_scale, hy.greatest_scale);
@@ -197,20 +197,20 @@ quotient_sound mode s a b r few places e x y hx hy =
     }
 
 pub record RescalingPasses (mode : Mode) (s : ℕ) (a r : Interval) : Type 0 where
-  pub kept : IsWithinLimit (most a *ℤ ten_to (s - a.s_hi))
+  pub kept : IsWithinLimit (greatest_magnitude a *ℤ ten_to (s - a.s_hi))
   pub is : interval (end_value mode s a a.lo) (end_value mode s a a.hi) s s ≡ r
 
 pub rescaling_passes : (mode : Mode) (s : ℕ) (a r : Interval) → rescaled_row mode s a ≡ Ok r → RescalingPasses mode s a r
 rescaling_passes mode s a r e =
-    let p = unless_ok (is_beyond (most a *ℤ ten_to (s - a.s_hi))) Wide (Ok (interval (end_value mode s a a.lo) (end_value mode s a a.hi) s s)) r e in
-    record { kept = within_out (most a *ℤ ten_to (s - a.s_hi)) p.0; is = ok_is _ r p.1 }
+    let p = unless_ok (is_beyond (greatest_magnitude a *ℤ ten_to (s - a.s_hi))) Wide (Ok (interval (end_value mode s a a.lo) (end_value mode s a a.hi) s s)) r e in
+    record { kept = within_out (greatest_magnitude a *ℤ ten_to (s - a.s_hi)) p.0; is = ok_is _ r p.1 }
 
 -- contained decimals can be rescaled
-pub can_rescale : (mode : Mode) (s : ℕ) (a : Interval) (x : Decimal) → s ≤ most_places → IsWithinLimit (most a *ℤ ten_to (s - a.s_hi)) → Contains a x → RescaleFits mode x s
+pub can_rescale : (mode : Mode) (s : ℕ) (a : Interval) (x : Decimal) → s ≤ most_places → IsWithinLimit (greatest_magnitude a *ℤ ten_to (s - a.s_hi)) → Contains a x → RescaleFits mode x s
 can_rescale mode s a x few kept hx =
     let i = scale_of x in
     let u = numerator_at a.s_hi x in
-    let long = kept_less (most a) u (s - a.s_hi) (most_holds a u hx.low hx.high) kept in
+    let long = kept_less (greatest_magnitude a) u (s - a.s_hi) (most_holds a u hx.low hx.high) kept in
     rescale_fits mode s x few (kept_shorter (numerator_of x) (s - i) ((a.s_hi - i) + (s - a.s_hi)) (omega (arith, hx.greatest_scale)) (subst IsWithinLimit (longer (numerator_of x) (a.s_hi - i) (s - a.s_hi) _ refl) long))
 
 pub rescaling_sound : (mode : Mode) (s : ℕ) (a r : Interval) → s ≤ most_places → rescaled_row mode s a ≡ Ok r → RescalingIsSound mode s a r

@@ -14,8 +14,8 @@ use Rattle.scaled_decimal.specs.RoundedDecimals.{rescaled}
 use Rattle.scaled_decimal.specs.RoundedDecimals.{rescaled_is}
 use Rattle.interval_num.specs.declared.sign_set.SignSet.{SignSet}
 use Rattle.interval_num.specs.Intervals.{Interval, interval, Contains, IsWhole}
-use Rattle.interval_num.specs.Signs.{HasOrder, HasSign}
-use Rattle.interval_num.specs.Refinement.{refined, gap, low_end, high_end, is_apart, without, unless_empty}
+use Rattle.interval_num.specs.Signs.{HasSignOf, HasSign}
+use Rattle.interval_num.specs.Refinement.{refined, gap, low_end, high_end, is_apart, without_end, unless_empty}
 use Rattle.interval_num.specs.Soundness.{RefinementIsSound, NoneIsAllowed}
 use Rattle.interval_num.proofs.NumberLemmas.{times_one}
 use Rattle.interval_num.proofs.AlignmentLemmas.{at_greater}
@@ -34,7 +34,7 @@ rounded_down n b z k h l = let less = less_back z (b +ℤ pos 1) k (let high = h
 -- the numerators of a decimal of v and of one of e, at their own scales and lengthened alike
 pub record Compared (v e : Interval) (allowed : SignSet) (x y : Decimal) : Type 0 where
   order : Ordering
-  has : HasOrder allowed order
+  has : HasSignOf allowed order
   ranks : Ranks order (numerator_at v.s_hi x *ℤ ten_to e.s_hi) (numerator_at e.s_hi y *ℤ ten_to v.s_hi)
 
 pub compared : (v e : Interval) (allowed : SignSet) (x y : Decimal) → Contains v x → Contains e y → HasSign allowed x y → Compared v e allowed x y
@@ -55,17 +55,17 @@ compared v e allowed x y hx hy sign =
 never : (s : Bool) → s ≡ false → IsTrue s → ⊥
 never s e h = cc
 
-not_less : (allowed : SignSet) (o : Ordering) (m n : ℤ) → HasOrder allowed o → Ranks o m n → allowed.minus ≡ false → n ≤ℤ m
+not_less : (allowed : SignSet) (o : Ordering) (m n : ℤ) → HasSignOf allowed o → Ranks o m n → allowed.minus ≡ false → n ≤ℤ m
 not_less allowed Less m n h r e = absurd (never allowed.minus e h)
 not_less allowed Equal m n h r e = omega (arith, ints)
 not_less allowed Greater m n h r e = omega (arith, ints)
 
-not_greater : (allowed : SignSet) (o : Ordering) (m n : ℤ) → HasOrder allowed o → Ranks o m n → allowed.plus ≡ false → m ≤ℤ n
+not_greater : (allowed : SignSet) (o : Ordering) (m n : ℤ) → HasSignOf allowed o → Ranks o m n → allowed.plus ≡ false → m ≤ℤ n
 not_greater allowed Less m n h r e = omega (arith, ints)
 not_greater allowed Equal m n h r e = omega (arith, ints)
 not_greater allowed Greater m n h r e = absurd (never allowed.plus e h)
 
-not_equal : (allowed : SignSet) (o : Ordering) (m n : ℤ) → HasOrder allowed o → Ranks o m n → allowed.zero ≡ false → m ≢ n
+not_equal : (allowed : SignSet) (o : Ordering) (m n : ℤ) → HasSignOf allowed o → Ranks o m n → allowed.zero ≡ false → m ≢ n
 not_equal allowed Less m n h r e same = omega (arith, ints)
 not_equal allowed Equal m n h r e same = never allowed.zero e h
 not_equal allowed Greater m n h r e same = omega (arith, ints)
@@ -202,11 +202,11 @@ module _ (v e : Interval) (allowed : SignSet) (whole : Bool) (x y : Decimal) (hx
             },
           )
 
-      by_apart : (t : Bool) → is_apart e allowed whole ≡ t → (r : Interval) × (unless_empty (if t then without e.lo part else part) ≡ Some r) × Contains r x
+      by_apart : (t : Bool) → is_apart e allowed whole ≡ t → (r : Interval) × (unless_empty (if t then without_end e.lo part else part) ≡ Some r) × Contains r x
       by_apart false f = some part refl refl low high
       by_apart true f =
           let apart = single_apart f in
-          some (without e.lo part) refl refl (moved_low (int_eq part.lo e.lo) refl apart low) (moved_high (int_eq part.hi e.lo) refl apart high)
+          some (without_end e.lo part) refl refl (moved_low (int_eq part.lo e.lo) refl apart low) (moved_high (int_eq part.hi e.lo) refl apart high)
 
 pub refinement_sound : (v e r : Interval) (allowed : SignSet) (whole : Bool) → OnTrue whole (IsWhole v) → OnTrue whole (IsWhole e) → refined v e allowed whole ≡ Some r → RefinementIsSound v e allowed r
 refinement_sound v e r allowed whole wv we is x h =
@@ -226,17 +226,17 @@ none_allowed v e allowed whole wv we is x h =
     apart s e = cc
 
 -- what the code has computed, whether the value is single or not
-pub refined_apart : (v e : Interval) (allowed : SignSet) (whole : Bool) → is_apart e allowed whole ≡ true → refined v e allowed whole ≡ unless_empty (without e.lo (interval (low_end v e allowed whole) (high_end v e allowed whole) v.s_lo v.s_hi))
+pub refined_apart : (v e : Interval) (allowed : SignSet) (whole : Bool) → is_apart e allowed whole ≡ true → refined v e allowed whole ≡ unless_empty (without_end e.lo (interval (low_end v e allowed whole) (high_end v e allowed whole) v.s_lo v.s_hi))
 refined_apart v e allowed whole f = by_test (is_apart e allowed whole) f
   where
-    by_test : (t : Bool) → t ≡ true → unless_empty (if t then without e.lo (interval (low_end v e allowed whole) (high_end v e allowed whole) v.s_lo v.s_hi) else interval (low_end v e allowed whole) (high_end v e allowed whole) v.s_lo v.s_hi) ≡ unless_empty (without e.lo (interval (low_end v e allowed whole) (high_end v e allowed whole) v.s_lo v.s_hi))
+    by_test : (t : Bool) → t ≡ true → unless_empty (if t then without_end e.lo (interval (low_end v e allowed whole) (high_end v e allowed whole) v.s_lo v.s_hi) else interval (low_end v e allowed whole) (high_end v e allowed whole) v.s_lo v.s_hi) ≡ unless_empty (without_end e.lo (interval (low_end v e allowed whole) (high_end v e allowed whole) v.s_lo v.s_hi))
     by_test true g = refl
     by_test false g = absurd (cc)
 
 pub refined_part : (v e : Interval) (allowed : SignSet) (whole : Bool) → is_apart e allowed whole ≡ false → refined v e allowed whole ≡ unless_empty (interval (low_end v e allowed whole) (high_end v e allowed whole) v.s_lo v.s_hi)
 refined_part v e allowed whole f = by_test (is_apart e allowed whole) f
   where
-    by_test : (t : Bool) → t ≡ false → unless_empty (if t then without e.lo (interval (low_end v e allowed whole) (high_end v e allowed whole) v.s_lo v.s_hi) else interval (low_end v e allowed whole) (high_end v e allowed whole) v.s_lo v.s_hi) ≡ unless_empty (interval (low_end v e allowed whole) (high_end v e allowed whole) v.s_lo v.s_hi)
+    by_test : (t : Bool) → t ≡ false → unless_empty (if t then without_end e.lo (interval (low_end v e allowed whole) (high_end v e allowed whole) v.s_lo v.s_hi) else interval (low_end v e allowed whole) (high_end v e allowed whole) v.s_lo v.s_hi) ≡ unless_empty (interval (low_end v e allowed whole) (high_end v e allowed whole) v.s_lo v.s_hi)
     by_test true g = absurd (cc)
     by_test false g = refl
 

@@ -13,7 +13,7 @@ use Rattle.scaled_decimal.specs.Decimals.{Decimal, ten_to}
 use Rattle.scaled_decimal.specs.WholeNumbers.{IsOfBits, is_of_bits, whole_sum, whole_difference, whole_product, whole_quotient, whole_remainder, whole_opposite, whole_decimal}
 use Rattle.interval_num.specs.declared.cause.RangeCause.TheVariants.{Wide, Divisor}
 use Rattle.interval_num.specs.Intervals.{Interval, interval, Contains, IsWhole, IsWholeOfBits}
-use Rattle.interval_num.specs.Alignment.{least, greatest, hull, corners, most, has_zero}
+use Rattle.interval_num.specs.Alignment.{least, greatest, hull, corners, greatest_magnitude, has_zero}
 use Rattle.interval_num.specs.Rows.{whole_hull, whole_row, whole_opposite_row, whole_quotient_row, least_remainder, greatest_remainder, whole_remainder_row}
 use Rattle.interval_num.specs.Soundness.{WholeIsSound, WholeQuotientIsSound, WholeOppositeIsSound}
 use Rattle.interval_num.proofs.NumberLemmas.{times_one}
@@ -204,11 +204,11 @@ whole_quotient_sound bits a b r wa wb e m n hm hn =
       covers = record { fits = steady_fits bits whole_quotient a b r wa wb p.1 m n steady; inside = steady_inside bits whole_quotient a b r wa wb p.1 m n steady };
     }
 
-remainder_low : (b : Interval) (l m n : ℤ) (t : Bool) → int_le (pos 0) l ≡ t → n ≢ pos 0 → l ≤ℤ m → b.lo ≤ℤ n → n ≤ℤ b.hi → (if t then pos 0 else int_max l (neg_ℤ (most b -ℤ pos 1))) ≤ℤ int_rem m n
+remainder_low : (b : Interval) (l m n : ℤ) (t : Bool) → int_le (pos 0) l ≡ t → n ≢ pos 0 → l ≤ℤ m → b.lo ≤ℤ n → n ≤ℤ b.hi → (if t then pos 0 else int_max l (neg_ℤ (greatest_magnitude b -ℤ pos 1))) ≤ℤ int_rem m n
 remainder_low b l m n true e some p q r = rem_above m n (omega (arith, ints))
 remainder_low b l m n false e some p q r = by_sign (int_le (pos 0) m) refl
   where
-    by_sign : (s : Bool) → int_le (pos 0) m ≡ s → int_max l (neg_ℤ (most b -ℤ pos 1)) ≤ℤ int_rem m n
+    by_sign : (s : Bool) → int_le (pos 0) m ≡ s → int_max l (neg_ℤ (greatest_magnitude b -ℤ pos 1)) ≤ℤ int_rem m n
     by_sign true f =
         let small = rem_below m n (some_abs n some) in
         let bound = most_holds b n q r in
@@ -221,11 +221,11 @@ remainder_low b l m n false e some p q r = by_sign (int_le (pos 0) m) refl
         let s = rem_under m n (omega (arith, ints)) in
         omega (arith, ints, clamps)
 
-remainder_high : (b : Interval) (h m n : ℤ) (t : Bool) → int_le h (pos 0) ≡ t → n ≢ pos 0 → m ≤ℤ h → b.lo ≤ℤ n → n ≤ℤ b.hi → int_rem m n ≤ℤ (if t then pos 0 else int_min h (most b -ℤ pos 1))
+remainder_high : (b : Interval) (h m n : ℤ) (t : Bool) → int_le h (pos 0) ≡ t → n ≢ pos 0 → m ≤ℤ h → b.lo ≤ℤ n → n ≤ℤ b.hi → int_rem m n ≤ℤ (if t then pos 0 else int_min h (greatest_magnitude b -ℤ pos 1))
 remainder_high b h m n true e some p q r = rem_under m n (omega (arith, ints))
 remainder_high b h m n false e some p q r = by_sign (int_le m (pos 0)) refl
   where
-    by_sign : (s : Bool) → int_le m (pos 0) ≡ s → int_rem m n ≤ℤ int_min h (most b -ℤ pos 1)
+    by_sign : (s : Bool) → int_le m (pos 0) ≡ s → int_rem m n ≤ℤ int_min h (greatest_magnitude b -ℤ pos 1)
     by_sign true f =
         let small = rem_below m n (some_abs n some) in
         let bound = most_holds b n q r in
@@ -254,7 +254,7 @@ rem_of_bits bits m n h = by_sign (int_le (pos 0) m) refl
 
 pub whole_remainder_sound : (bits : ℕ) (a b r : Interval) → IsWholeOfBits bits a → IsWhole b → whole_remainder_row a b ≡ Ok r → WholeQuotientIsSound bits whole_remainder a b r
 whole_remainder_sound bits a b r wa wb e m n hm hn =
-    let k = most b -ℤ pos 1 in
+    let k = greatest_magnitude b -ℤ pos 1 in
     let lo = least_remainder a.lo k in
     let hi = greatest_remainder a.hi k in
     let p = unless_ok (has_zero b) Divisor (Ok (interval lo hi 0 0)) r e in
@@ -272,22 +272,22 @@ whole_remainder_sound bits a b r wa wb e m n hm hn =
     }
 
 -- the remainders' ends are in order
-pub remainder_order : (lo hi : ℤ) (b : Interval) → lo ≤ℤ hi → has_zero b ≡ false → b.lo ≤ℤ b.hi → least_remainder lo (most b -ℤ pos 1) ≤ℤ greatest_remainder hi (most b -ℤ pos 1)
+pub remainder_order : (lo hi : ℤ) (b : Interval) → lo ≤ℤ hi → has_zero b ≡ false → b.lo ≤ℤ b.hi → least_remainder lo (greatest_magnitude b -ℤ pos 1) ≤ℤ greatest_remainder hi (greatest_magnitude b -ℤ pos 1)
 remainder_order lo hi b h e o =
     let l = low_under (int_le (pos 0) lo) refl in
     let u = high_above (int_le hi (pos 0)) refl in
     omega (arith, ints)
   where
     m : ℤ
-    m = most b -ℤ pos 1
+    m = greatest_magnitude b -ℤ pos 1
 
     m_above : pos 0 ≤ℤ m
     m_above = elim (one_sign b o e) [ inl some ↦ omega (arith, ints) | inr neg ↦ omega (arith, ints) ]
 
-    low_under : (t : Bool) → int_le (pos 0) lo ≡ t → (if t then pos 0 else int_max lo (neg_ℤ (most b -ℤ pos 1))) ≤ℤ pos 0
+    low_under : (t : Bool) → int_le (pos 0) lo ≡ t → (if t then pos 0 else int_max lo (neg_ℤ (greatest_magnitude b -ℤ pos 1))) ≤ℤ pos 0
     low_under true f = omega (arith, ints)
     low_under false f = let p = m_above in omega (arith, ints, clamps)
 
-    high_above : (t : Bool) → int_le hi (pos 0) ≡ t → pos 0 ≤ℤ (if t then pos 0 else int_min hi (most b -ℤ pos 1))
+    high_above : (t : Bool) → int_le hi (pos 0) ≡ t → pos 0 ≤ℤ (if t then pos 0 else int_min hi (greatest_magnitude b -ℤ pos 1))
     high_above true f = omega (arith, ints)
     high_above false f = let p = m_above in omega (arith, ints, clamps)

@@ -11,17 +11,17 @@ use Rattle.interval_num.specs.Intervals.{Interval, interval, HasKeptEnds}
 abbrev pub unless : Bool → RangeCause → Result Interval RangeCause → Result Interval RangeCause
 unless refused cause answer = if refused then Err cause else answer
 
--- whether a numerator is beyond the limit of kept decimals
+-- whether a numerator is beyond the limit of within_limit decimals
 abbrev pub is_beyond : ℤ → Bool
 is_beyond n = nat_lt limit (unsigned_abs n)
 
--- an end is beyond the limit of kept numbers
+-- an end is beyond the limit of within_limit numbers
 abbrev pub ends_beyond : Interval → Bool
 ends_beyond a = is_beyond a.lo || is_beyond a.hi
 
 -- the interval, or Wide where an end is beyond the limit
-abbrev pub kept : Interval → Result Interval RangeCause
-kept a = unless (ends_beyond a) Wide (Ok a)
+abbrev pub within_limit : Interval → Result Interval RangeCause
+within_limit a = unless (ends_beyond a) Wide (Ok a)
 
 -- the same interval with its ends at scale q, which is at least its greatest scale
 abbrev pub at_scale : ℕ → Interval → Interval
@@ -62,8 +62,8 @@ abbrev pub corners : (ℤ → ℤ → ℤ) → Interval → Interval → List �
 corners f a b = f a.lo b.lo ∷ (f a.lo b.hi ∷ (f a.hi b.lo ∷ (f a.hi b.hi ∷ [])))
 
 -- the greatest magnitude of a numerator at the greatest scale
-abbrev pub most : Interval → ℤ
-most a = pos (max (unsigned_abs a.lo) (unsigned_abs a.hi))
+abbrev pub greatest_magnitude : Interval → ℤ
+greatest_magnitude a = pos (max (unsigned_abs a.lo) (unsigned_abs a.hi))
 
 -- zero lies between the ends
 abbrev pub has_zero : Interval → Bool

@@ -36,9 +36,9 @@ past n low = if int_eq low n then low +ℤ pos 1 else low
 abbrev pub short_of : ℤ → ℤ → ℤ
 short_of n high = if int_eq high n then high -ℤ pos 1 else high
 
--- the interval without a number that is one of its ends
-abbrev pub without : ℤ → Interval → Interval
-without n v = interval (past n v.lo) (short_of n v.hi) v.s_lo v.s_hi
+-- the interval without_end a number that is one of its ends
+abbrev pub without_end : ℤ → Interval → Interval
+without_end n v = interval (past n v.lo) (short_of n v.hi) v.s_lo v.s_hi
 
 -- the interval, or none where its ends have crossed
 abbrev pub unless_empty : Interval → Option Interval
@@ -49,4 +49,4 @@ unless_empty v = if int_le v.lo v.hi then Some v else None
 abbrev pub refined : Interval → Interval → SignSet → Bool → Option Interval
 refined v e allowed whole =
     let part = interval (low_end v e allowed whole) (high_end v e allowed whole) v.s_lo v.s_hi in
-    unless_empty (if is_apart e allowed whole then without e.lo part else part)
+    unless_empty (if is_apart e allowed whole then without_end e.lo part else part)

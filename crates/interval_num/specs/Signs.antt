@@ -24,11 +24,11 @@ abbrev pub greatest_sign : SignSet → ℤ
 greatest_sign s = if s.plus then pos 1 else if s.zero then pos 0 else negsuc 0
 
 -- the set has the sign of this order
-abbrev pub HasOrder : SignSet → Ordering → Type 0
-HasOrder s Less = IsTrue s.minus
-HasOrder s Equal = IsTrue s.zero
-HasOrder s Greater = IsTrue s.plus
+abbrev pub HasSignOf : SignSet → Ordering → Type 0
+HasSignOf s Less = IsTrue s.minus
+HasSignOf s Equal = IsTrue s.zero
+HasSignOf s Greater = IsTrue s.plus
 
 -- the sign of x against y is one of the set's
 abbrev pub HasSign : SignSet → Decimal → Decimal → Type 0
-HasSign s x y = HasOrder s (value_order x y)
+HasSign s x y = HasSignOf s (value_order x y)

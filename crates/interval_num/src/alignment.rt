@@ -3,8 +3,8 @@ ghost use Rattle.std.specs.Prelude.{◌≡◌, ◌≤◌, ◌||◌, ℤ, pos, �
 ghost use Rattle.scaled_decimal.specs.Decimals.{ten_to};
 ghost use Rattle.scaled_decimal.specs.Limits.{IsWithinLimit, most_places};
 ghost use Rattle.interval_num.specs.Intervals.{Interval, interval, HasKeptEnds};
-ghost use Rattle.interval_num.specs.Alignment.{is_beyond, ends_beyond, kept, at_scale, greater_scale, aligned, most, has_zero};
-ghost use Rattle.interval_num.specs.Rows.{Answer, most_power};
+ghost use Rattle.interval_num.specs.Alignment.{is_beyond, ends_beyond, within_limit, at_scale, greater_scale, aligned, greatest_magnitude, has_zero};
+ghost use Rattle.interval_num.specs.Rows.{RowAnswer, most_power};
 ghost use Rattle.interval_num.specs.private.Views.{with_pair};
 
 use crate::cause::RangeCause;
@@ -33,7 +33,7 @@ pub(crate) fn kept(lo: i128, hi: i128, s_lo: u8, s_hi: u8) -> Result<Abs, RangeC
     requires order { lo ≤ℤ hi }
     requires scales { s_lo ≤ s_hi }
     requires places { s_hi ≤ most_places }
-    ensures { result ≡ kept (interval lo hi s_lo s_hi) }
+    ensures { result ≡ within_limit (interval lo hi s_lo s_hi) }
 {
     if is_beyond(lo) || is_beyond(hi) {
         return Err(RangeCause::Wide);
@@ -43,7 +43,7 @@ pub(crate) fn kept(lo: i128, hi: i128, s_lo: u8, s_hi: u8) -> Result<Abs, RangeC
 
 /// Two intervals with their ends at the greater of their greatest scales.
 pub(crate) fn aligned(a: Abs, b: Abs) -> Result<(Abs, Abs), RangeCause>
-    ensures exact { (make : Interval → Interval → Answer) →
+    ensures exact { (make : Interval → Interval → RowAnswer) →
         aligned make a b ≡ with_pair make result }
     ensures scale { IfOk result (λ p. p.0.s_hi ≡ p.1.s_hi) }
     ensures left { IfOk result (λ p. p.0.lo ≤ℤ p.0.hi) }
@@ -110,14 +110,14 @@ pub(crate) fn times(a: Abs, factor: i128, s_hi: u8) -> Abs
 /// Whether the greatest numerator, lengthened by so many places, is beyond the limit of kept decimals.
 pub(crate) fn lengthened_is_beyond(a: Abs, places: u8) -> bool
     requires { places ≤ most_power }
-    ensures { result ≡ is_beyond (most a *ℤ ten_to places) }
+    ensures { result ≡ is_beyond (greatest_magnitude a *ℤ ten_to places) }
 {
     product_is_beyond(most(a), power_of_ten(places))
 }
 
 /// The greatest magnitude of a numerator at the greatest scale.
 pub(crate) fn most(a: Abs) -> i128
-    ensures value { result ≡ most a }
+    ensures value { result ≡ greatest_magnitude a }
     ensures kept { IsWithinLimit result }
     ensures order { a.lo ≤ℤ a.hi }
 {

@@ -1,7 +1,7 @@
 //! The operations of decimals whose results are exact.
 ghost use Rattle.std.specs.Prelude.{◌≡◌, ◌≤ℤ◌, IfOk};
 ghost use Rattle.scaled_decimal.specs.Limits.{IsWithinLimit};
-ghost use Rattle.interval_num.specs.Alignment.{most, least_magnitude};
+ghost use Rattle.interval_num.specs.Alignment.{greatest_magnitude, least_magnitude};
 ghost use Rattle.interval_num.specs.Rows.{sum_row, difference_row, product_row, min_row, max_row, comparison_row, join_row, negated_row, magnitude_row};
 ghost use Rattle.interval_num.specs.Soundness.{SumIsSound, DifferenceIsSound, ProductIsSound, MinIsSound, MaxIsSound, ComparisonIsSound, JoinIsSound, NegationIsSound, MagnitudeIsSound};
 
@@ -114,7 +114,7 @@ pub fn abs_abs(a: Abs) -> Abs
 /// The least magnitude of a number between the ends.
 fn least_magnitude(a: Abs) -> i128
     ensures value { result ≡ least_magnitude a }
-    ensures order { result ≤ℤ most a }
+    ensures order { result ≤ℤ greatest_magnitude a }
     ensures kept { IsWithinLimit result }
 {
     if has_zero(a) {

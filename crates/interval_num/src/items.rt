@@ -4,7 +4,7 @@ ghost use Rattle.scaled_decimal.specs.Decimals.{Decimal};
 ghost use Rattle.interval_num.specs.declared.cause.RangeCause.TheVariants.{Index};
 ghost use Rattle.interval_num.specs.Intervals.{IsWhole};
 ghost use Rattle.interval_num.specs.Rows.{item_row, decimals_row};
-ghost use Rattle.interval_num.specs.ItemLevels.{joined, halved, single_rows, first_level, AreLevels, AreLevelsOf};
+ghost use Rattle.interval_num.specs.ItemLevels.{joined_answers, halved, single_rows, first_level, AreLevels, AreLevelsOf};
 ghost use Rattle.interval_num.specs.private.Views.{IsSome, items_of, may_be_outside, ArePlaces};
 ghost use Rattle.interval_num.specs.Soundness.{ItemIsSound};
 
@@ -105,9 +105,9 @@ struct Level {
 
 impl Model for Level {
     ghost use Rattle.std.specs.Prelude.{List};
-    ghost use Rattle.interval_num.specs.Rows.{Answer};
+    ghost use Rattle.interval_num.specs.Rows.{RowAnswer};
 
-    ghost Value = { List Answer };
+    ghost Value = { List RowAnswer };
 
     ghost view = { λ l. l.ranges.items };
 }
@@ -129,7 +129,7 @@ impl Level {
 
 /// The range of what two runs have together.
 fn joined(left: Result<Abs, RangeCause>, right: Result<Abs, RangeCause>) -> Result<Abs, RangeCause>
-    ensures { result ≡ joined left right }
+    ensures { result ≡ joined_answers left right }
 {
     join(left?, right?)
 }

@@ -28,7 +28,7 @@ use Rattle.pap_types.specs.Limits.{longest_chain}
 use Rattle.pap_types.specs.Checks.{IsWellTyped}
 use Rattle.pap_types.specs.Typing.{IsTypedTerm, IsTypedBody}
 use Rattle.pap_types.proofs.Laws.{has_types}
-use Rattle.call_order.specs.ChainLaws.{Names}
+use Rattle.call_order.specs.ChainLaws.{NamesBody}
 use Rattle.call_order.specs.Executed.{EachExecuted}
 use Rattle.call_order.specs.Orders.{HasShortChains}
 use Rattle.call_order.proofs.Laws.{by_bounds}
@@ -370,7 +370,7 @@ each_of P h (execute m rest) = (h m, each_of P h rest)
 module _ (f : Flowchart) (typed : IsWellTyped f) (short : HasShortChains f) where
   -- of a name that is a method's
   abbrev WhereNamed : (List ℕ → Type 0) → List ℕ → Type 0
-  WhereNamed P x = (b : Body) → Names f x b → P x
+  WhereNamed P x = (b : Body) → NamesBody f x b → P x
 
   can_be_walked : (P : List ℕ → Type 0) (b : Body) → IsTypedBody (scope_of f) f.methods b
       → EachExecuted (WhereNamed P) b → CanBeWalked (scope_of f) P b
@@ -389,7 +389,7 @@ module _ (f : Flowchart) (typed : IsWellTyped f) (short : HasShortChains f) wher
   abbrev Within : ℕ → List ℕ → Type 0
   Within n x = WhereNamed (EntersWithin (scope_of f) f.methods n) x
 
-  within_more : (n k : ℕ) (x : List ℕ) → ((b : Body) → Names f x b → EachExecuted (Within n) b)
+  within_more : (n k : ℕ) (x : List ℕ) → ((b : Body) → NamesBody f x b → EachExecuted (Within n) b)
       → Within (suc n) x
   unfolding EntersWithin
   within_more n k x h = λ b is.

@@ -12,8 +12,8 @@ use Rattle.pap_tree.specs.declared.expression.Binary.{Binary}
 use Rattle.pap_tree.specs.Term.{whole, long, point, text, known, named, Term, leaf, item, one, two, choice}
 use Rattle.interval_num.specs.declared.sign_set.SignSet.{SignSet}
 use Rattle.interval_num.specs.Intervals.{Interval, interval, Contains, IsWhole}
-use Rattle.interval_num.specs.Signs.{signs_of, HasOrder, HasSign}
-use Rattle.interval_num.specs.Refinement.{refined, is_apart, without, unless_empty, low_end, high_end}
+use Rattle.interval_num.specs.Signs.{signs_of, HasSignOf, HasSign}
+use Rattle.interval_num.specs.Refinement.{refined, is_apart, without_end, unless_empty, low_end, high_end}
 use Rattle.interval_num.specs.Soundness.{IsAllowed}
 use Rattle.interval_num.proofs.Laws.{signs_sound, refinement_sound, none_allowed}
 use Rattle.pap_types.specs.Scopes.{Scope, constant_in}
@@ -27,7 +27,7 @@ use Rattle.interval_walk.proofs.EnvLemmas.{look_inside, within_narrow}
 -- ---- signs
 
 -- the sign c of two decimals is allowed where c op k holds
-pub sign_holds : (op : Binary) (k : ℤ) (o : Ordering) → holds_of op (int_cmp (order_number o) k) ≡ true → HasOrder (signs_where op k) o
+pub sign_holds : (op : Binary) (k : ℤ) (o : Ordering) → holds_of op (int_cmp (order_number o) k) ≡ true → HasSignOf (signs_where op k) o
 sign_holds op k Less e = e
 sign_holds op k Equal e = e
 sign_holds op k Greater e = e
@@ -37,7 +37,7 @@ not_of true e = absurd (cc)
 not_of false e = refl
 
 -- and one of the others where it doesn't
-pub sign_fails : (op : Binary) (k : ℤ) (o : Ordering) → holds_of op (int_cmp (order_number o) k) ≡ false → HasOrder (others (signs_where op k)) o
+pub sign_fails : (op : Binary) (k : ℤ) (o : Ordering) → holds_of op (int_cmp (order_number o) k) ≡ false → HasSignOf (others (signs_where op k)) o
 sign_fails op k Less e = not_of _ e
 sign_fails op k Equal e = not_of _ e
 sign_fails op k Greater e = not_of _ e
@@ -48,7 +48,7 @@ order_of_number Less = refl
 order_of_number Equal = refl
 order_of_number Greater = refl
 
-exchanged_order : (s : SignSet) (o : Ordering) → HasOrder s o → HasOrder (exchanged s) (ordering_reverse o)
+exchanged_order : (s : SignSet) (o : Ordering) → HasSignOf s o → HasSignOf (exchanged s) (ordering_reverse o)
 exchanged_order s Less h = h
 exchanged_order s Equal h = h
 exchanged_order s Greater h = h
@@ -56,9 +56,9 @@ exchanged_order s Greater h = h
 pub exchanged_sign : (s : SignSet) (x y : Decimal) → HasSign s x y → HasSign (exchanged s) y x
 exchanged_sign s x y h =
     let back : ordering_reverse (value_order x y) ≡ value_order y x = sym (int_cmp_total.antisymm (numerator_of y *ℤ ten_to (scale_of x)) (numerator_of x *ℤ ten_to (scale_of y))) in
-    subst (HasOrder (exchanged s)) back (exchanged_order s (value_order x y) h)
+    subst (HasSignOf (exchanged s)) back (exchanged_order s (value_order x y) h)
 
-pub common_sign : (a s : SignSet) (o : Ordering) → HasOrder a o → HasOrder s o → can_have a s ≡ true
+pub common_sign : (a s : SignSet) (o : Ordering) → HasSignOf a o → HasSignOf s o → can_have a s ≡ true
 common_sign a s Less h k = rw (h, k) refl
 common_sign a s Equal h k = rw (h, k) (either_true (a.minus && s.minus))
   where
@@ -92,9 +92,9 @@ refined_scales v e r allowed t f = by_apart (is_apart e allowed t) f
     part : Interval
     part = interval (low_end v e allowed t) (high_end v e allowed t) v.s_lo v.s_hi
 
-    by_apart : (u : Bool) → unless_empty (if u then without e.lo part else part) ≡ Some r → KeepsScales v r
+    by_apart : (u : Bool) → unless_empty (if u then without_end e.lo part else part) ≡ Some r → KeepsScales v r
     by_apart true g =
-        let same = unless_same (without e.lo part) r g in
+        let same = unless_same (without_end e.lo part) r g in
         record { least = ap (λ r. r.s_lo) (sym same); greatest = ap (λ r. r.s_hi) (sym same) }
     by_apart false g =
         let same = unless_same part r g in

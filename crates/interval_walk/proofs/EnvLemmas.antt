@@ -4,7 +4,7 @@ use Rattle.std.specs.Str.{bytes_eq}
 use Rattle.scaled_decimal.specs.Decimals.{Decimal}
 use Rattle.interval_num.specs.Intervals.{Interval, Contains}
 use Rattle.pap_types.specs.Scopes.{Scope}
-use Rattle.pap_types.specs.Values.{Env, look, put}
+use Rattle.pap_types.specs.Values.{Env, look, put_value}
 use Rattle.interval_walk.specs.Ranges.{Ranges, range_named, put_range}
 use Rattle.interval_walk.specs.Soundness.{AreWithin}
 use Rattle.interval_walk.specs.private.Soundness.{AreVariables}
@@ -58,27 +58,27 @@ within_narrow (r ∷ rs) (v ∷ vs) x a d w e h = by_test (bytes_eq r.name x) re
         (w.0, w.1, later there h)
 
 -- both replaced
-pub within_put : (rs : Ranges) (env : Env) (x : List ℕ) (a : Interval) (d : Decimal) → AreWithin rs env → Contains a d → AreWithin (put_range rs x a) (put env x d)
+pub within_put : (rs : Ranges) (env : Env) (x : List ℕ) (a : Interval) (d : Decimal) → AreWithin rs env → Contains a d → AreWithin (put_range rs x a) (put_value env x d)
 within_put [] [] x a d w h = tt
 within_put [] (v ∷ vs) x a d w h = absurd w
 within_put (r ∷ rs) [] x a d w h = absurd w
 within_put (r ∷ rs) (v ∷ vs) x a d w h = by_test (bytes_eq r.name x) (bytes_eq v.name x) (ap (λ n. bytes_eq n x) w.0) (within_put rs vs x a d w.2 h)
   where
-    by_test : (t u : Bool) → t ≡ u → AreWithin (put_range rs x a) (put vs x d) → AreWithin (if t then record r { range = a } ∷ rs else r ∷ put_range rs x a) (if u then record v { value = d } ∷ vs else v ∷ put vs x d)
+    by_test : (t u : Bool) → t ≡ u → AreWithin (put_range rs x a) (put_value vs x d) → AreWithin (if t then record r { range = a } ∷ rs else r ∷ put_range rs x a) (if u then record v { value = d } ∷ vs else v ∷ put_value vs x d)
     by_test true true e later = (w.0, h, w.2)
     by_test false false e later = (w.0, w.1, later)
     by_test true false e later = absurd (cc)
     by_test false true e later = absurd (cc)
 
 -- an assignment gives no name a value that has none
-pub none_put : (env : Env) (x y : List ℕ) (d : Decimal) → look env y ≡ None → look (put env x d) y ≡ None
+pub none_put : (env : Env) (x y : List ℕ) (d : Decimal) → look env y ≡ None → look (put_value env x d) y ≡ None
 none_put [] x y d e = refl
 none_put (v ∷ vs) x y d e = by_named (bytes_eq v.name x) (bytes_eq v.name y) refl e (none_put vs x y d)
   where
-    by_named : (t u : Bool) → bytes_eq v.name y ≡ u → (if u then Some v.value else look vs y) ≡ None → (look vs y ≡ None → look (put vs x d) y ≡ None) → look (if t then record v { value = d } ∷ vs else v ∷ put vs x d) y ≡ None
+    by_named : (t u : Bool) → bytes_eq v.name y ≡ u → (if u then Some v.value else look vs y) ≡ None → (look vs y ≡ None → look (put_value vs x d) y ≡ None) → look (if t then record v { value = d } ∷ vs else v ∷ put_value vs x d) y ≡ None
     by_named t true f g later = absurd (cc)
     by_named true false f g later = rw f g
     by_named false false f g later = rw f (later g)
 
-pub variables_put : (scope : Scope) (env : Env) (x : List ℕ) (d : Decimal) → AreVariables scope env → AreVariables scope (put env x d)
+pub variables_put : (scope : Scope) (env : Env) (x : List ℕ) (d : Decimal) → AreVariables scope env → AreVariables scope (put_value env x d)
 variables_put scope env x d only y none = none_put env x y d (only y none)

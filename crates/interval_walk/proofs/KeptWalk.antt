@@ -21,7 +21,7 @@ use Rattle.interval_num.specs.declared.sign_set.SignSet.{SignSet}
 use Rattle.interval_num.specs.Intervals.{Interval, interval}
 use Rattle.interval_num.specs.Rows.{join_row}
 use Rattle.interval_num.specs.Signs.{signs_of}
-use Rattle.interval_num.specs.Refinement.{refined, is_apart, without, unless_empty, low_end, high_end}
+use Rattle.interval_num.specs.Refinement.{refined, is_apart, without_end, unless_empty, low_end, high_end}
 use Rattle.pap_types.specs.Scopes.{Scope}
 use Rattle.pap_types.specs.Kinds.{int_literal}
 use Rattle.pap_types.specs.Checks.{place, last_node}
@@ -84,12 +84,12 @@ refined_inside v e r allowed t f = by_apart (is_apart e allowed t) f
     high : high_end v e allowed t ≤ℤ v.hi
     high = high_lowered allowed.plus v.hi _
 
-    by_apart : (u : Bool) → unless_empty (if u then without e.lo part else part) ≡ Some r → IsInside v r
+    by_apart : (u : Bool) → unless_empty (if u then without_end e.lo part else part) ≡ Some r → IsInside v r
     by_apart true g =
-        let o = not_empty (without e.lo part) r g in
+        let o = not_empty (without_end e.lo part) r g in
         let l = past_above e.lo (low_end v e allowed t) (int_eq (low_end v e allowed t) e.lo) in
         let h = short_below e.lo (high_end v e allowed t) (int_eq (high_end v e allowed t) e.lo) in
-        subst (IsInside v) (unless_same (without e.lo part) r g) (record { low = omega (arith, ints, low, l); high = omega (arith, ints, high, h); order = o; least_scale = refl; greatest_scale = refl })
+        subst (IsInside v) (unless_same (without_end e.lo part) r g) (record { low = omega (arith, ints, low, l); high = omega (arith, ints, high, h); order = o; least_scale = refl; greatest_scale = refl })
     by_apart false g =
         let o = not_empty part r g in
         subst (IsInside v) (unless_same part r g) (record { low = low; high = high; order = o; least_scale = refl; greatest_scale = refl })

@@ -29,7 +29,7 @@ use Rattle.limits_file.specs.declared.limits.Limits.{Limits}
 use Rattle.limits_file.specs.Limits.{HasSoundBounds}
 use Rattle.pap_types.specs.declared.kinds.NodeKind.{NodeKind}
 use Rattle.pap_types.specs.declared.kinds.NodeKind.TheVariants.{Int, Long, Big, Truth, Fraction, Factor, Table}
-use Rattle.pap_types.specs.Scopes.{Scope, scope_of, variables_of, declared_as, declaration_in, names_of, first_value, items_of, declared_table, declared_decimal, kept_as, table_in}
+use Rattle.pap_types.specs.Scopes.{Scope, scope_of, variables_of, declared_as, declaration_in, names_of, first_value, table_items, declared_table, declared_decimal, kept_as, table_in}
 use Rattle.pap_types.specs.Kinds.{declared_kind, name_kind, leaf_kind}
 use Rattle.pap_types.specs.Checks.{is_of_type}
 use Rattle.pap_types.specs.Typing.{HasItsType, AreDistinct, declarations_of, IsDeclaredLeaf, IsTypedBody, HasTypes}
@@ -277,7 +277,7 @@ items_few (Some (number l)) h = All-nil HasFewPlaces
 items_few (Some (big d)) h = All-nil HasFewPlaces
 items_few (Some (table ds)) h = h
 
-table_few : (o : Option Declaration) → ((d : Declaration) → o ≡ Some d → IsHeld d) → All HasFewPlaces (items_of o)
+table_few : (o : Option Declaration) → ((d : Declaration) → o ≡ Some d → IsHeld d) → All HasFewPlaces (table_items o)
 table_few None h = All-nil HasFewPlaces
 table_few (Some d) h = items_few d.value (h d refl).holds
 

@@ -13,7 +13,7 @@ use Rattle.pap_tree.specs.Statements.{written}
 use Rattle.interval_num.specs.declared.cause.RangeCause.{RangeCause}
 use Rattle.interval_num.specs.declared.cause.RangeCause.TheVariants.{Wide}
 use Rattle.interval_num.specs.Intervals.{Interval}
-use Rattle.interval_num.specs.Rows.{Answer, item_row, join_row}
+use Rattle.interval_num.specs.Rows.{RowAnswer, item_row, join_row}
 use Rattle.pap_types.specs.Scopes.{scope_of, table_in}
 use Rattle.pap_types.specs.Kinds.{kind_of, int_literal}
 use Rattle.pap_types.specs.Limits.{longest_chain}
@@ -111,7 +111,7 @@ item_refused : (items : List Decimal) (i : Interval) (node : ℕ) (x : NodeFault
     → at_node node (item_range items i) ≡ Err x → at_node node (item_row items i) ≡ Err x
 item_refused items i node x reads e = by_row (item_row items i) refl e
   where
-    by_row : (o : Answer) → item_row items i ≡ o → at_node node (read_item o) ≡ Err x → at_node node o ≡ Err x
+    by_row : (o : RowAnswer) → item_row items i ≡ o → at_node node (read_item o) ≡ Err x → at_node node o ≡ Err x
     by_row (Ok r) k m =
         absurd (node_passed node (read_item (Ok r)) r x (subst (λ o. read_item o ≡ Ok r) k (reads r k)) m)
     by_row (Err c) k m = m
@@ -228,7 +228,7 @@ join_refuses node (r ∷ rs) (s ∷ ss) y n e =
     let rest : names_in rs ≡ names_in ss = cc in
     by_row (join_row r.range s.range) (joined rs ss) e (join_refuses node rs ss y rest)
   where
-    by_row : (o : Answer) (p : Result Ranges RangeCause)
+    by_row : (o : RowAnswer) (p : Result Ranges RangeCause)
         → at_node node (and_then o (λ a. and_then p (λ z. Ok (record r { range = a } ∷ z)))) ≡ Err y
         → (at_node node p ≡ Err y → JoinRefuses node rs ss y)
         → (at_node node o ≡ Err y) ⊎ JoinRefuses node rs ss y

@@ -14,10 +14,10 @@ use Rattle.scaled_decimal.specs.WholeNumbers.{IsOfBits, is_of_bits, int_bits, lo
 use Rattle.interval_num.specs.declared.cause.RangeCause.{RangeCause}
 use Rattle.interval_num.specs.declared.cause.RangeCause.TheVariants.{Wide, Scale, Divisor}
 use Rattle.interval_num.specs.Intervals.{Interval, interval, IsWholeOfBits}
-use Rattle.interval_num.specs.Alignment.{unless, kept, ends_beyond, aligned, at_scale, greater_scale, hull, most, has_zero, is_beyond}
+use Rattle.interval_num.specs.Alignment.{unless, within_limit, ends_beyond, aligned, at_scale, greater_scale, hull, greatest_magnitude, has_zero, is_beyond}
 use Rattle.interval_num.specs.PlainDivisors.{divisor_places, cofactor}
 use Rattle.interval_num.specs.Signs.{signs_at, least_sign, greatest_sign}
-use Rattle.interval_num.specs.Rows.{Answer, sum_of, difference_of, min_of, max_of, join_of, comparison_of, sum_row, difference_row, product_row, min_row, max_row, comparison_row, join_row, quotient_row, quotient_is_wide, exact_quotient_row, rescaled_row, whole_hull, whole_remainder_row, least_remainder, greatest_remainder}
+use Rattle.interval_num.specs.Rows.{RowAnswer, sum_of, difference_of, min_of, max_of, join_of, comparison_of, sum_row, difference_row, product_row, min_row, max_row, comparison_row, join_row, quotient_row, quotient_is_wide, exact_quotient_row, rescaled_row, whole_hull, whole_remainder_row, least_remainder, greatest_remainder}
 use Rattle.interval_num.specs.declared.sign_set.SignSet.{SignSet}
 use Rattle.pap_types.specs.declared.kinds.NodeKind.{NodeKind}
 use Rattle.pap_types.specs.declared.kinds.NodeKind.TheVariants.{Int, Long, Big, Truth, Fraction, Factor, Table}
@@ -29,11 +29,11 @@ use Rattle.interval_walk.specs.Shapes.{HasShape}
 -- ---- answers
 
 -- an answer that no cause refuses
-pub unless_ok : (t : Bool) (cause : RangeCause) (answer : Answer) (r : Interval) → unless t cause answer ≡ Ok r → (t ≡ false) × (answer ≡ Ok r)
+pub unless_ok : (t : Bool) (cause : RangeCause) (answer : RowAnswer) (r : Interval) → unless t cause answer ≡ Ok r → (t ≡ false) × (answer ≡ Ok r)
 unless_ok true cause answer r e = absurd (cc)
 unless_ok false cause answer r e = (refl, e)
 
-pub ok_is : (s r : Interval) → ◌≡◌ {A = Answer} (Ok s) (Ok r) → s ≡ r
+pub ok_is : (s r : Interval) → ◌≡◌ {A = RowAnswer} (Ok s) (Ok r) → s ≡ r
 ok_is s r e = cc
 
 pub both_true : (s t : Bool) → (s && t) ≡ true → (s ≡ true) × (t ≡ true)
@@ -163,7 +163,7 @@ read_shape Fraction a r e = read_places Fraction a r (λ h. record { places = h;
 read_shape Factor a r e = read_places Factor a r (λ h. record { places = h; suits = tt }) e
 read_shape Table a r e = read_places Table a r (λ h. record { places = h; suits = tt }) e
 
-pub read_item_shape : (o : Answer) (r : Interval) → read_item o ≡ Ok r → (o ≡ Ok r) × HasShape Big r
+pub read_item_shape : (o : RowAnswer) (r : Interval) → read_item o ≡ Ok r → (o ≡ Ok r) × HasShape Big r
 read_item_shape (Ok a) r e = let h = read_shape Big a r e in (ap Ok h.same, subst (HasShape Big) h.same h.shape)
 read_item_shape (Err c) r e = absurd (cc)
 
@@ -214,10 +214,10 @@ between_high bits u z h p q =
     let a = h.high in
     record { low = omega (arith, ints); high = omega (arith, ints) }
 
-most_some : (b : Interval) → has_zero b ≡ false → pos 0 ≤ℤ (most b -ℤ pos 1)
+most_some : (b : Interval) → has_zero b ≡ false → pos 0 ≤ℤ (greatest_magnitude b -ℤ pos 1)
 most_some b e = by_low (int_le b.lo (pos 0)) refl (int_le (pos 0) b.hi) refl
   where
-    by_low : (t : Bool) → int_le b.lo (pos 0) ≡ t → (u : Bool) → int_le (pos 0) b.hi ≡ u → pos 0 ≤ℤ (most b -ℤ pos 1)
+    by_low : (t : Bool) → int_le b.lo (pos 0) ≡ t → (u : Bool) → int_le (pos 0) b.hi ≡ u → pos 0 ≤ℤ (greatest_magnitude b -ℤ pos 1)
     by_low true f true g = absurd (let h : has_zero b ≡ true = rw (f, g) refl in cc)
     by_low false f u g = omega (arith, ints)
     by_low true f false g = omega (arith, ints)
@@ -232,7 +232,7 @@ remainder_high bits u m h p false e = between_high bits u (int_min u m) h (omega
 
 pub remainder_shape : (bits : ℕ) (a b r : Interval) → IsWholeOfBits bits a → whole_remainder_row a b ≡ Ok r → IsWholeOfBits bits r
 remainder_shape bits a b r w e =
-    let m = most b -ℤ pos 1 in
+    let m = greatest_magnitude b -ℤ pos 1 in
     let p = unless_ok (has_zero b) Divisor (Ok (interval (least_remainder a.lo m) (greatest_remainder a.hi m) 0 0)) r e in
     subst (IsWholeOfBits bits) (ok_is _ r p.1) (record {
       whole = record { least_scale = refl; greatest_scale = refl };
@@ -242,10 +242,10 @@ remainder_shape bits a b r w e =
 
 -- ---- rows of decimals
 
-pub aligned_made : (make : Interval → Interval → Answer) (a b r : Interval) → aligned make a b ≡ Ok r → make (at_scale (greater_scale a b) a) (at_scale (greater_scale a b) b) ≡ Ok r
+pub aligned_made : (make : Interval → Interval → RowAnswer) (a b r : Interval) → aligned make a b ≡ Ok r → make (at_scale (greater_scale a b) a) (at_scale (greater_scale a b) b) ≡ Ok r
 aligned_made make a b r e = (unless_ok _ Wide _ r e).1
 
-kept_is : (a r : Interval) → kept a ≡ Ok r → a ≡ r
+kept_is : (a r : Interval) → within_limit a ≡ Ok r → a ≡ r
 kept_is a r e = ok_is a r (unless_ok (ends_beyond a) Wide (Ok a) r e).1
 
 module _ (a b : Interval) (ha : a.s_hi ≤ most_places) (hb : b.s_hi ≤ most_places) (r : Interval) where
@@ -321,7 +321,7 @@ exact_quotient_shape d a r e =
 
 pub rescaled_shape : (mode : Mode) (s : ℕ) (a r : Interval) → s ≤ most_places → rescaled_row mode s a ≡ Ok r → HasShape Big r
 rescaled_shape mode s a r few e =
-    let q = unless_ok (is_beyond (most a *ℤ ten_to (s - a.s_hi))) Wide (Ok _) r e in
+    let q = unless_ok (is_beyond (greatest_magnitude a *ℤ ten_to (s - a.s_hi))) Wide (Ok _) r e in
     big_shape r (subst (λ r. r.s_hi ≤ most_places) (ok_is _ r q.1) few)
 
 -- ---- joins

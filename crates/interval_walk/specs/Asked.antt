@@ -7,7 +7,7 @@ use Rattle.pap_tree.specs.declared.expression.Binary.TheVariants.{And, Or}
 use Rattle.pap_tree.specs.Term.{Term, leaf, item, one, two, choice, unary, operator}
 use Rattle.pap_tree.specs.Flowchart.{Flowchart, Body, done, eval, branch, execute, Routine}
 use Rattle.interval_num.specs.Intervals.{Interval}
-use Rattle.interval_num.specs.Rows.{Answer}
+use Rattle.interval_num.specs.Rows.{RowAnswer}
 use Rattle.pap_types.specs.Scopes.{Scope, scope_of}
 use Rattle.pap_types.specs.Kinds.{kind_of}
 use Rattle.pap_types.specs.Routines.{body_named}
@@ -23,11 +23,11 @@ use Rattle.interval_walk.specs.Walked.{walked, range_calls_of}
 -- ---- expressions
 
 -- not every range of an operand is refused
-abbrev pub TakesSome : (Interval → Answer) → Type 0
+abbrev pub TakesSome : (Interval → RowAnswer) → Type 0
 TakesSome range = (a : Interval) × IsTrue (is_ok (range a))
 
 -- not every range of one operand with every range of another is
-abbrev pub TakesSomeTwo : (Interval → Interval → Answer) → Type 0
+abbrev pub TakesSomeTwo : (Interval → Interval → RowAnswer) → Type 0
 TakesSomeTwo range = (a : Interval) × TakesSome (range a)
 
 module _ (scope : Scope) where

@@ -13,7 +13,7 @@ use Rattle.limits_file.specs.declared.limits.Binding.{Binding}
 use Rattle.limits_file.specs.Labels.{label_of}
 use Rattle.limits_file.specs.Faults.{Fault, too_long, no_toml, bad_key, bad_bound}
 use Rattle.limits_file.specs.Entries.{has_key, text_at, first_unsuited, entry_members, failing_key}
-use Rattle.limits_file.specs.Bindings.{is_count, is_kind, suits_binding, binding_form, IsCarryOf, BindingSays}
+use Rattle.limits_file.specs.Bindings.{is_count, is_binding_kind, suits_binding, binding_form, IsCarryOf, BindingSays}
 use Rattle.limits_file.specs.private.BindingViews.{is_whole, GivesCarry}
 use Rattle.limits_file.proofs.WalkLemmas.{SaysOne, SaysSome}
 use Rattle.limits_file.proofs.EntryLemmas.{suited, IsFit, fit, is_table}
@@ -66,8 +66,8 @@ or_false : (b c : Bool) → (b || (false && c)) ≡ true → b ≡ true
 or_false true c h = refl
 or_false false c h = h
 
-pub kind_text : (entry : Members) (d : Data) → suits_binding (is_count entry) (codes "kind") d ≡ true → (text : List ℕ) × ((d ≡ string text) × (is_kind text ≡ true))
-kind_text entry (string text) h = (text, (refl, or_false (is_kind text) (is_name text && not (is_count entry)) h))
+pub kind_text : (entry : Members) (d : Data) → suits_binding (is_count entry) (codes "kind") d ≡ true → (text : List ℕ) × ((d ≡ string text) × (is_binding_kind text ≡ true))
+kind_text entry (string text) h = (text, (refl, or_false (is_binding_kind text) (is_name text && not (is_count entry)) h))
 kind_text entry (integer z) h = absurd (cc h)
 kind_text entry (float x) h = absurd (cc h)
 kind_text entry (boolean x) h = absurd (cc h)
@@ -95,7 +95,7 @@ text_of : (entry : Members) (key : List ℕ) (d : Data) (text : List ℕ) → ge
 text_of entry key d text stands is = rw stands (rw is refl)
 
 module _ (entry : Members) (all : first_unsuited (suits_binding (is_count entry)) entry ≡ None) where
-  pub kind_at : has_key entry (codes "kind") ≡ true → (text : List ℕ) × ((text_at (codes "kind") entry ≡ Some text) × (is_kind text ≡ true))
+  pub kind_at : has_key entry (codes "kind") ≡ true → (text : List ℕ) × ((text_at (codes "kind") entry ≡ Some text) × (is_binding_kind text ≡ true))
   kind_at here =
       let found = some_from (get_member (codes "kind") entry) here in
       let text = kind_text entry found.0 (suited (suits_binding (is_count entry)) entry (codes "kind") found.0 all found.1) in
@@ -163,7 +163,7 @@ module _ (entry : Members) (kind output : List ℕ) (e : text_at (codes "kind") 
   gives_last all other =
       let found = kind_at entry all (stands entry (codes "kind") kind e) in
       let same : found.0 ≡ kind = same_output found.0 kind _ found.1.0 e in
-      let three : is_kind kind ≡ true = subst (λ k. is_kind k ≡ true) same found.1.1 in
+      let three : is_binding_kind kind ≡ true = subst (λ k. is_binding_kind k ≡ true) same found.1.1 in
       let last : bytes_eq kind (codes "last") ≡ true = elim (or_cases _ _ three) [
         | inl two ↦ elim (or_cases _ _ two) [ inl sum ↦ absurd (false≢true (sym other ∙ sum)) | inr last ↦ last ]
         | inr count ↦ absurd (false≢true (sym apart ∙ count))
@@ -184,7 +184,7 @@ carry_some name entry f =
       | inl same ↦ (Count, kind.1.0 ∙ ap Some ((bytes_eq-Decides kind.0 (codes "count")).0 same))
       | inr apart ↦ reads kind.0 kind.1.0 kind.1.1 apart (output_at entry f.suited (needs_output entry (no_count entry kind.0 kind.1.0 apart) f.whole))
     ] where
-      reads : (kind : List ℕ) → text_at (codes "kind") entry ≡ Some kind → is_kind kind ≡ true → bytes_eq kind (codes "count") ≡ false → (output : List ℕ) × ((text_at (codes "output") entry ≡ Some output) × (is_name output ≡ true)) → (c : Carry) × IsCarryOf entry c
+      reads : (kind : List ℕ) → text_at (codes "kind") entry ≡ Some kind → is_binding_kind kind ≡ true → bytes_eq kind (codes "count") ≡ false → (output : List ℕ) × ((text_at (codes "output") entry ≡ Some output) × (is_name output ≡ true)) → (c : Carry) × IsCarryOf entry c
       reads kind e three apart output = elim (or_cases _ _ three) [
         | inl two ↦ elim (or_cases _ _ two) [
           | inl same ↦ (Sum output.0, (e ∙ ap Some ((bytes_eq-Decides kind (codes "sum")).0 same), output.1.0))

@@ -9,7 +9,7 @@ use Rattle.toml.specs.Parse.{parse_document}
 use Rattle.limits_file.specs.declared.limits.Limits.{Limits}
 use Rattle.limits_file.specs.Labels.{label_of}
 use Rattle.limits_file.specs.Faults.{Fault, too_long, no_toml, bad_key, bad_bound}
-use Rattle.limits_file.specs.Walks.{TableSays}
+use Rattle.limits_file.specs.Walks.{KeysSay}
 use Rattle.limits_file.specs.Inputs.{InputSays}
 use Rattle.limits_file.specs.Bindings.{BindingSays}
 use Rattle.limits_file.specs.Limits.{longest_limits}
@@ -28,9 +28,9 @@ some_of false P Q p q = q
 
 section_once : SaysOne SectionSays
 section_once n key (table entries) x y h h' =
-    one_of (bytes_eq key (codes "bind")) (TableSays BindingSays with_bindings entries) (λ a. MatchBool (bytes_eq key (codes "input")) (TableSays InputSays with_inputs entries a) (a ≡ Err (bad_key (label_of key))))
+    one_of (bytes_eq key (codes "bind")) (KeysSay BindingSays with_bindings entries) (λ a. MatchBool (bytes_eq key (codes "input")) (KeysSay InputSays with_inputs entries a) (a ≡ Err (bad_key (label_of key))))
     (table_once BindingSays binding_once with_bindings entries)
-    (one_of (bytes_eq key (codes "input")) (TableSays InputSays with_inputs entries) (λ a. a ≡ Err (bad_key (label_of key))) (table_once InputSays input_once with_inputs entries) (λ a b e e'. e ∙ sym e'))
+    (one_of (bytes_eq key (codes "input")) (KeysSay InputSays with_inputs entries) (λ a. a ≡ Err (bad_key (label_of key))) (table_once InputSays input_once with_inputs entries) (λ a b e e'. e ∙ sym e'))
     x y h h'
 section_once n key (string v) x y h h' = h ∙ sym h'
 section_once n key (integer v) x y h h' = h ∙ sym h'
@@ -41,9 +41,9 @@ section_once n key (array v) x y h h' = h ∙ sym h'
 
 section_some : SaysSome SectionSays
 section_some n key (table entries) =
-    some_of (bytes_eq key (codes "bind")) (TableSays BindingSays with_bindings entries) (λ a. MatchBool (bytes_eq key (codes "input")) (TableSays InputSays with_inputs entries a) (a ≡ Err (bad_key (label_of key))))
+    some_of (bytes_eq key (codes "bind")) (KeysSay BindingSays with_bindings entries) (λ a. MatchBool (bytes_eq key (codes "input")) (KeysSay InputSays with_inputs entries a) (a ≡ Err (bad_key (label_of key))))
     (table_some BindingSays binding_some with_bindings entries)
-    (some_of (bytes_eq key (codes "input")) (TableSays InputSays with_inputs entries) (λ a. a ≡ Err (bad_key (label_of key))) (table_some InputSays input_some with_inputs entries) (Err (bad_key (label_of key)), refl))
+    (some_of (bytes_eq key (codes "input")) (KeysSay InputSays with_inputs entries) (λ a. a ≡ Err (bad_key (label_of key))) (table_some InputSays input_some with_inputs entries) (Err (bad_key (label_of key)), refl))
 section_some n key (string v) = (Err (bad_key (label_of key)), refl)
 section_some n key (integer v) = (Err (bad_key (label_of key)), refl)
 section_some n key (float v) = (Err (bad_key (label_of key)), refl)
@@ -101,7 +101,7 @@ section_inside n key (array v) f h = key_inside f (label_of key) h
 
 -- what the table of a file says
 TextSays : List ℕ → Result Limits Fault → Type 0
-TextSays bytes answer = (file : Members) × IsToml bytes file × TableSays SectionSays joined_limits file answer
+TextSays bytes answer = (file : Members) × IsToml bytes file × KeysSay SectionSays joined_limits file answer
 
 text_once : (bytes : List ℕ) (x y : Result Limits Fault) → TextSays bytes x → TextSays bytes y → x ≡ y
 unfolding TextSays
@@ -109,7 +109,7 @@ text_once bytes x y h h' =
     let parsed = h.1.parsed in
     let parsed' = h'.1.parsed in
     let same : h'.0 ≡ h.0 = cc in
-    table_once SectionSays section_once joined_limits h.0 x y h.2 (subst (λ file. TableSays SectionSays joined_limits file y) same h'.2)
+    table_once SectionSays section_once joined_limits h.0 x y h.2 (subst (λ file. KeysSay SectionSays joined_limits file y) same h'.2)
 
 text_not_refused : (bytes : List ℕ) (x : Result Limits Fault) → TextSays bytes x → IsNoToml bytes → ⊥
 unfolding TextSays
@@ -147,7 +147,7 @@ file_once bytes (Ok l) (Err (bad_key k)) h h' = text_once bytes (Ok l) (Err (bad
 file_once bytes (Ok l) (Err (bad_bound k)) h h' = text_once bytes (Ok l) (Err (bad_bound k)) h h'
 file_once bytes (Ok l) (Ok m) h h' = text_once bytes (Ok l) (Ok m) h h'
 
-file_from : (bytes : List ℕ) (file : Members) → IsToml bytes file → (x : Result Limits Fault) → TableSays SectionSays joined_limits file x → (y : Result Limits Fault) × FileSays bytes y
+file_from : (bytes : List ℕ) (file : Members) → IsToml bytes file → (x : Result Limits Fault) → KeysSay SectionSays joined_limits file x → (y : Result Limits Fault) × FileSays bytes y
 unfolding IsInside
 file_from bytes file toml (Ok l) h = (Ok l, (file, toml, h))
 file_from bytes file toml (Err (bad_key k)) h = (Err (bad_key k), (file, toml, h))
@@ -171,10 +171,10 @@ file_some bytes = elim (cases_lt longest_limits (length bytes)) [
   ]
 
 -- the faults of a whole text are none of its table's
-pub never_long : (file : Members) → TableSays SectionSays joined_limits file (Err too_long) → ⊥
+pub never_long : (file : Members) → KeysSay SectionSays joined_limits file (Err too_long) → ⊥
 unfolding IsInside
 never_long file h = table_fault SectionSays IsInside section_inside 0 file too_long h
 
-pub never_refused : (file : Members) → TableSays SectionSays joined_limits file (Err no_toml) → ⊥
+pub never_refused : (file : Members) → KeysSay SectionSays joined_limits file (Err no_toml) → ⊥
 unfolding IsInside
 never_refused file h = table_fault SectionSays IsInside section_inside 0 file no_toml h

@@ -24,7 +24,7 @@ use Rattle.limits_file.specs.declared.limits.Limits.{Limits}
 use Rattle.limits_file.specs.private.AnswerViews.{Tells}
 use Rattle.limits_file.specs.Labels.{label_of}
 use Rattle.limits_file.specs.Faults.{Fault, bad_key}
-use Rattle.limits_file.specs.Walks.{AllOrFirstFault, TableSays}
+use Rattle.limits_file.specs.Walks.{AllOrFirstFault, KeysSay}
 use Rattle.limits_file.specs.Inputs.{InputSays}
 use Rattle.limits_file.specs.Bindings.{BindingSays}
 use Rattle.limits_file.specs.RangeFiles.{with_inputs, with_bindings, joined_limits, SectionSays, NamesAscend, NamesAreInOrder}
@@ -114,16 +114,16 @@ module _ (es all : Entries) (limits : Limits) (key : String Global) (value : Val
     with_more l p = record { inputs = l.inputs ++ p.inputs; bindings = l.bindings ++ p.bindings }
 
   -- a key that is none of the two, or no table
-  pub stranger : (e : LimitsFault) → e ≡ answered.Key (label_of (string_bytes key)) → ((n : ℕ) → SectionSays n (string_bytes key) (view value) (Err (bad_key (label_of (string_bytes key))))) → Tells (TableSays SectionSays joined_limits (members_view all)) (Err e)
+  pub stranger : (e : LimitsFault) → e ≡ answered.Key (label_of (string_bytes key)) → ((n : ℕ) → SectionSays n (string_bytes key) (view value) (Err (bad_key (label_of (string_bytes key))))) → Tells (KeysSay SectionSays joined_limits (members_view all)) (Err e)
   stranger e made h = rw made (section_stops (bad_key (label_of (string_bytes key))) h)
 
   -- `bind`
   module _ (entries : Members) (named : string_bytes key ≡ codes "bind") (is : view value ≡ table entries) where
-    bind_says : (answer : Result Limits Fault) → TableSays BindingSays with_bindings entries answer → (n : ℕ) → SectionSays n (string_bytes key) (view value) answer
+    bind_says : (answer : Result Limits Fault) → KeysSay BindingSays with_bindings entries answer → (n : ℕ) → SectionSays n (string_bytes key) (view value) answer
     bind_says answer h n = subst (λ d. SectionSays n (string_bytes key) d answer) (sym is) (subst (λ k. SectionSays n k (table entries) answer) (sym named) h)
 
-    pub bind_stops : (e : LimitsFault) → Tells (AllOrFirstFault BindingSays 0 entries) (Err e) → Tells (TableSays SectionSays joined_limits (members_view all)) (Err e)
-    bind_stops = tells_fault (AllOrFirstFault BindingSays 0 entries) (TableSays SectionSays joined_limits (members_view all)) (λ f h. section_stops f (bind_says (Err f) h))
+    pub bind_stops : (e : LimitsFault) → Tells (AllOrFirstFault BindingSays 0 entries) (Err e) → Tells (KeysSay SectionSays joined_limits (members_view all)) (Err e)
+    bind_stops = tells_fault (AllOrFirstFault BindingSays 0 entries) (KeysSay SectionSays joined_limits (members_view all)) (λ f h. section_stops f (bind_says (Err f) h))
 
     pub bind_goes : (bindings : List Binding) → AllOrFirstFault BindingSays 0 entries (Ok bindings) → NamesAscend (map (λ binding. binding.input) bindings) → Progress rest all (record { inputs = limits.inputs; bindings = bindings })
     bind_goes bindings h ascends = record {
@@ -138,11 +138,11 @@ module _ (es all : Entries) (limits : Limits) (key : String Global) (value : Val
 
   -- `input`
   module _ (entries : Members) (named : string_bytes key ≡ codes "input") (is : view value ≡ table entries) where
-    input_says : (answer : Result Limits Fault) → TableSays InputSays with_inputs entries answer → (n : ℕ) → SectionSays n (string_bytes key) (view value) answer
+    input_says : (answer : Result Limits Fault) → KeysSay InputSays with_inputs entries answer → (n : ℕ) → SectionSays n (string_bytes key) (view value) answer
     input_says answer h n = subst (λ d. SectionSays n (string_bytes key) d answer) (sym is) (subst (λ k. SectionSays n k (table entries) answer) (sym named) h)
 
-    pub input_stops : (e : LimitsFault) → Tells (AllOrFirstFault InputSays 0 entries) (Err e) → Tells (TableSays SectionSays joined_limits (members_view all)) (Err e)
-    input_stops = tells_fault (AllOrFirstFault InputSays 0 entries) (TableSays SectionSays joined_limits (members_view all)) (λ f h. section_stops f (input_says (Err f) h))
+    pub input_stops : (e : LimitsFault) → Tells (AllOrFirstFault InputSays 0 entries) (Err e) → Tells (KeysSay SectionSays joined_limits (members_view all)) (Err e)
+    input_stops = tells_fault (AllOrFirstFault InputSays 0 entries) (KeysSay SectionSays joined_limits (members_view all)) (λ f h. section_stops f (input_says (Err f) h))
 
     pub input_goes : (inputs : List InputLimit) → AllOrFirstFault InputSays 0 entries (Ok inputs) → NamesAscend (map (λ limit. limit.name) inputs) → Progress rest all (record { inputs = inputs; bindings = limits.bindings })
     input_goes inputs h ascends = record {
@@ -156,7 +156,7 @@ module _ (es all : Entries) (limits : Limits) (key : String Global) (value : Val
     }
 
 -- the walk is over
-pub whole_says : (es all : Entries) (limits : Limits) → Progress es all limits → es ≡ [] → TableSays SectionSays joined_limits (members_view all) (Ok limits)
+pub whole_says : (es all : Entries) (limits : Limits) → Progress es all limits → es ≡ [] → KeysSay SectionSays joined_limits (members_view all) (Ok limits)
 whole_says es all limits p e =
     let over = subst (λ l. GoesOn SectionSays p.parts (members_view l) (members_view all)) e p.goes in
     (p.parts, ends SectionSays p.parts (members_view all) over, sym p.whole)

@@ -3,7 +3,7 @@ use Rattle.std.proofs.Common.{◌≡◌, ℕ, suc, List, [], ◌∷◌, ◌++◌
 use Rattle.std.proofs.lemmas.List.{append-nil}
 use Rattle.toml.specs.Data.{Data, Members, no_members, member}
 use Rattle.limits_file.specs.Faults.{Fault}
-use Rattle.limits_file.specs.Walks.{AllOrFirstFault, TableSays}
+use Rattle.limits_file.specs.Walks.{AllOrFirstFault, KeysSay}
 
 module _ {A : Type 0} (Says : ℕ → List ℕ → Data → Result A Fault → Type 0) where
   abbrev pub SaysOne : Type 0
@@ -42,7 +42,7 @@ module _ {A : Type 0} (Says : ℕ → List ℕ → Data → Result A Fault → T
       ]
     ]
 
-    pub table_once : {B : Type 0} (together : List A → B) (ms : Members) (a b : Result B Fault) → TableSays Says together ms a → TableSays Says together ms b → a ≡ b
+    pub table_once : {B : Type 0} (together : List A → B) (ms : Members) (a b : Result B Fault) → KeysSay Says together ms a → KeysSay Says together ms b → a ≡ b
     table_once together ms (Ok x) (Ok y) h h' = ap Ok (h.2 ∙ ap together (all_once 0 ms h.0 h'.0 h.1 h'.1) ∙ sym h'.2)
     table_once together ms (Ok x) (Err f) h h' = absurd (all_and_fault 0 ms h.0 f h.1 h')
     table_once together ms (Err f) (Ok x) h h' = absurd (all_and_fault 0 ms h'.0 f h'.1 h)
@@ -66,11 +66,11 @@ module _ {A : Type 0} (Says : ℕ → List ℕ → Data → Result A Fault → T
         let later = all_some (suc n) rest in
         member_some n key value rest here.0 here.1 later.0 later.1
 
-    together_some : {B : Type 0} (together : List A → B) (ms : Members) (a : Result (List A) Fault) → AllOrFirstFault Says 0 ms a → (b : Result B Fault) × TableSays Says together ms b
+    together_some : {B : Type 0} (together : List A → B) (ms : Members) (a : Result (List A) Fault) → AllOrFirstFault Says 0 ms a → (b : Result B Fault) × KeysSay Says together ms b
     together_some together ms (Ok said) h = (Ok (together said), (said, h, refl))
     together_some together ms (Err f) h = (Err f, h)
 
-    pub table_some : {B : Type 0} (together : List A → B) (ms : Members) → (b : Result B Fault) × TableSays Says together ms b
+    pub table_some : {B : Type 0} (together : List A → B) (ms : Members) → (b : Result B Fault) × KeysSay Says together ms b
     unfolding Found
     table_some together ms = let found = all_some 0 ms in together_some together ms found.0 found.1
 

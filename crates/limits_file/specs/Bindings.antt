@@ -17,14 +17,14 @@ is_count entry =
     option_map_or (λ kind. bytes_eq kind (codes "count")) (text_at (codes "kind") entry) false
 
 -- the words that `kind` may be
-abbrev pub is_kind : List ℕ → Bool
-is_kind text =
+abbrev pub is_binding_kind : List ℕ → Bool
+is_binding_kind text =
     bytes_eq text (codes "sum") || bytes_eq text (codes "last") || bytes_eq text (codes "count")
 
 -- `kind` is one of three words; `output` is a name, and stands only beside a kind that reads an output
 abbrev pub suits_binding : Bool → List ℕ → Data → Bool
 suits_binding counts key (string text) =
-    (bytes_eq key (codes "kind") && is_kind text)
+    (bytes_eq key (codes "kind") && is_binding_kind text)
     || (bytes_eq key (codes "output") && (is_name text && not counts))
 suits_binding counts key value = false
 

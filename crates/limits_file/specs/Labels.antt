@@ -3,13 +3,13 @@ use Rattle.std.specs.Prelude.{ℕ, ◌||◌, ◌==◌, List, take, map, if◌the
 use Rattle.pap_tree.specs.Names.{is_word}
 
 -- a letter, a digit, `_`, `-` or `.`
-abbrev pub is_shown : ℕ → Bool
-is_shown b = is_word b || (b == 45) || (b == 46)
+abbrev pub is_label_byte : ℕ → Bool
+is_label_byte b = is_word b || (b == 45) || (b == 46)
 
--- any other byte is shown as `?`
-abbrev pub shown : ℕ → ℕ
-shown b = if is_shown b then b else 63
+-- any other byte is label_byte as `?`
+abbrev pub label_byte : ℕ → ℕ
+label_byte b = if is_label_byte b then b else 63
 
 -- the first 32 bytes of a key
 abbrev pub label_of : List ℕ → List ℕ
-label_of key = map shown (take 32 key)
+label_of key = map label_byte (take 32 key)

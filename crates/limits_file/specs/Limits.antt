@@ -15,14 +15,14 @@ abbrev pub longest_limits : ℕ
 longest_limits = 262144
 
 -- the value of a is at most that of b, whatever their scales
-abbrev pub IsAtMost : Decimal → Decimal → Type 0
-IsAtMost a b = IsFalse (is_gt (value_order a b))
+abbrev pub IsNoGreater : Decimal → Decimal → Type 0
+IsNoGreater a b = IsFalse (is_gt (value_order a b))
 
 -- the value has no more places than the limit, and lies from low to high
 pub record Fits (limit : InputLimit) (value : Decimal) : Type 0 where
   pub places : scale_of value ≤ limit.places
-  pub above : IsAtMost limit.low value
-  pub below : IsAtMost value limit.high
+  pub above : IsNoGreater limit.low value
+  pub below : IsNoGreater value limit.high
 
 -- the limit of a name
 abbrev pub limit_named : Limits → List ℕ → Option InputLimit
@@ -38,7 +38,7 @@ pub record HasSoundBounds (limit : InputLimit) : Type 0 where
   pub places : limit.places ≤ most_places
   pub low_places : scale_of limit.low ≤ limit.places
   pub high_places : scale_of limit.high ≤ limit.places
-  pub ordered : IsAtMost limit.low limit.high
+  pub ordered : IsNoGreater limit.low limit.high
   pub low_kept : IsWithinLimit (numerator_at limit.places limit.low)
   pub high_kept : IsWithinLimit (numerator_at limit.places limit.high)
 

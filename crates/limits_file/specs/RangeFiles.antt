@@ -13,7 +13,7 @@ use Rattle.limits_file.specs.declared.limits.Limits.{Limits}
 use Rattle.limits_file.specs.Labels.{label_of}
 use Rattle.limits_file.specs.Limits.{longest_limits}
 use Rattle.limits_file.specs.Faults.{Fault, too_long, no_toml, bad_key}
-use Rattle.limits_file.specs.Walks.{TableSays}
+use Rattle.limits_file.specs.Walks.{KeysSay}
 use Rattle.limits_file.specs.Inputs.{InputSays}
 use Rattle.limits_file.specs.Bindings.{BindingSays}
 
@@ -35,8 +35,8 @@ joined_limits parts = record {
 -- A key of the file: `bind` and `input` are tables of entries, and any other key is a fault.
 abbrev pub SectionSays : ℕ → List ℕ → Data → Result Limits Fault → Type 0
 SectionSays n key (table entries) answer =
-    MatchBool (bytes_eq key (codes "bind")) (TableSays BindingSays with_bindings entries answer)
-    (MatchBool (bytes_eq key (codes "input")) (TableSays InputSays with_inputs entries answer)
+    MatchBool (bytes_eq key (codes "bind")) (KeysSay BindingSays with_bindings entries answer)
+    (MatchBool (bytes_eq key (codes "input")) (KeysSay InputSays with_inputs entries answer)
     (answer ≡ Err (bad_key (label_of key))))
 SectionSays n key value answer = answer ≡ Err (bad_key (label_of key))
 
@@ -56,7 +56,7 @@ abbrev pub FileSays : List ℕ → Result Limits Fault → Type 0
 FileSays bytes (Err too_long) = longest_limits < length bytes
 FileSays bytes (Err no_toml) = IsNoToml bytes
 FileSays bytes answer =
-    (file : Members) × IsToml bytes file × TableSays SectionSays joined_limits file answer
+    (file : Members) × IsToml bytes file × KeysSay SectionSays joined_limits file answer
 
 -- a text says one thing
 pub record RangeFileHasOneAnswer (bytes : List ℕ) : Type 0 where

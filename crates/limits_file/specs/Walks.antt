@@ -17,7 +17,7 @@ module _ {A : Type 0} (Says : ℕ → List ℕ → Data → Result A Fault → T
       ⊎ ((first : A) × Says n key value (Ok first) × AllOrFirstFault (suc n) rest (Err fault))
 
   -- what all keys of a table say, put together, or the fault of the first that has one
-  abbrev pub TableSays : {B : Type 0} → (List A → B) → Members → Result B Fault → Type 0
-  TableSays together entries (Ok whole) =
+  abbrev pub KeysSay : {B : Type 0} → (List A → B) → Members → Result B Fault → Type 0
+  KeysSay together entries (Ok whole) =
       (said : List A) × AllOrFirstFault 0 entries (Ok said) × (whole ≡ together said)
-  TableSays together entries (Err fault) = AllOrFirstFault 0 entries (Err fault)
+  KeysSay together entries (Err fault) = AllOrFirstFault 0 entries (Err fault)

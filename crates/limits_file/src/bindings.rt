@@ -6,7 +6,7 @@ ghost use Rattle.limits_file.specs.Entries.{first_unsuited, text_at};
 ghost use Rattle.limits_file.specs.private.BindingViews.{is_whole, GivesCarry};
 ghost use Rattle.limits_file.specs.RangeFiles.{NamesAscend};
 ghost use Rattle.limits_file.specs.Walks.{AllOrFirstFault};
-ghost use Rattle.limits_file.specs.Bindings.{is_count, is_kind, suits_binding, binding_form, BindingSays};
+ghost use Rattle.limits_file.specs.Bindings.{is_count, is_binding_kind, suits_binding, binding_form, BindingSays};
 
 use crate::entries::value_at;
 use crate::{Binding, Carry, Items, LimitsFault};
@@ -82,7 +82,7 @@ fn text_at<'a>(entry: &'a Table, key: &str) -> Option<&'a str>
 }
 
 fn is_kind(text: &str) -> bool
-    ensures { result ≡ is_kind text.now }
+    ensures { result ≡ is_binding_kind text.now }
 {
     text == "sum" || text == "last" || text == "count"
 }

@@ -1,7 +1,7 @@
 //! How a fault shows a key.
 ghost use Rattle.std.specs.Prelude.{◌≡◌, Some};
 ghost use Rattle.std.specs.Fmt.{debug_str};
-ghost use Rattle.limits_file.specs.Labels.{shown, label_of};
+ghost use Rattle.limits_file.specs.Labels.{label_byte, label_of};
 
 use pap_tree::{ShortText, is_word};
 use std::fmt;
@@ -68,7 +68,7 @@ impl fmt::Display for Label {
 
 /// The byte as a label shows it.
 fn shown(byte: u8) -> u8
-    ensures { result ≡ shown byte }
+    ensures { result ≡ label_byte byte }
 {
     if is_word(byte) || byte == b'-' || byte == b'.' {
         byte

@@ -5,7 +5,7 @@ ghost use Rattle.limits_file.specs.private.AnswerViews.{Tells, IsNoTomlOrMemory}
 ghost use Rattle.limits_file.specs.Faults.{no_toml, bad_key, bad_bound};
 ghost use Rattle.limits_file.specs.Limits.{longest_limits};
 ghost use Rattle.limits_file.specs.RangeFiles.{SectionSays, joined_limits, IsToml, FileSays, FilesAreInOrder, NamesAreInOrder, RangeFileHasOneAnswer};
-ghost use Rattle.limits_file.specs.Walks.{TableSays};
+ghost use Rattle.limits_file.specs.Walks.{KeysSay};
 
 use crate::bindings::read_bindings;
 use crate::inputs::read_inputs;
@@ -70,7 +70,7 @@ fn read_toml(alloc: Global, bytes: &[u8]) -> Result<Table, LimitsFault>
 
 /// What a whole table says.
 fn read_table(alloc: Global, table: &Table) -> Result<Limits, LimitsFault>
-    ensures says { Tells (TableSays SectionSays joined_limits (table_view table.now)) result }
+    ensures says { Tells (KeysSay SectionSays joined_limits (table_view table.now)) result }
     ensures in_order { IfOk result NamesAreInOrder }
 {
     let mut limits = Limits {

@@ -10,7 +10,7 @@ use Rattle.std.proofs.lemmas.Option.{slice_get_past, none-some}
 use Rattle.std.proofs.lemmas.Slice.Eq.{bytes_eq-Decides}
 use Rattle.pap_types.specs.Scopes.{number_of}
 use Rattle.scaled_decimal.specs.Decimals.{Decimal}
-use Rattle.pap_types.specs.Values.{look, put}
+use Rattle.pap_types.specs.Values.{look, put_value}
 use Rattle.month_trace.specs.private.ValueViews.{with_names}
 
 pub same_either_way : (x y : List ℕ) → bytes_eq x y ≡ bytes_eq y x
@@ -66,14 +66,14 @@ named_none names rs x all e =
 
 -- so does a new value
 put_at : (names : List (List ℕ)) (rs : List Decimal) (x : List ℕ) (a : Decimal) → length rs ≡ length names
-    → put (with_names names rs) x a ≡ with_names names (set rs (place_of names x) a)
+    → put_value (with_names names rs) x a ≡ with_names names (set rs (place_of names x) a)
 put_at [] [] x a e = refl
 put_at [] (r ∷ rs) x a e = absurd (omega arith)
 put_at (n ∷ ns) [] x a e = absurd (omega arith)
 put_at (n ∷ ns) (r ∷ rs) x a e =
     rw (same_either_way n x)
     (elim (bytes_eq x n) as (λ same. (if same then record { name = n; value = a } ∷ with_names ns rs else record
-    { name = n; value = r } ∷ put (with_names ns rs) x a) ≡ with_names (n ∷ ns)
+    { name = n; value = r } ∷ put_value (with_names ns rs) x a) ≡ with_names (n ∷ ns)
     (set (r ∷ rs) (cond (not same) (1 + place_of ns x) 0) a)) [
       | true ↦ refl
       | false ↦ (let more : suc (place_of ns x) ≡ 1 + place_of ns x = omega arith in
@@ -82,13 +82,13 @@ put_at (n ∷ ns) (r ∷ rs) x a e =
     ])
 
 pub put_by : (names : List (List ℕ)) (rs : List Decimal) (x : List ℕ) (a : Decimal) (i : ℕ) → length rs ≡ length names
-    → number_of names x ≡ Some i → put (with_names names rs) x a ≡ with_names names (set rs i a)
+    → number_of names x ≡ Some i → put_value (with_names names rs) x a ≡ with_names names (set rs i a)
 put_by names rs x a i all e =
     put_at names rs x a all
     ∙ ap (λ k. with_names names (set rs k a)) (number_in names x i e).0
 
 pub put_none : (names : List (List ℕ)) (rs : List Decimal) (x : List ℕ) (a : Decimal) → length rs ≡ length names
-    → number_of names x ≡ None → put (with_names names rs) x a ≡ with_names names rs
+    → number_of names x ≡ None → put_value (with_names names rs) x a ≡ with_names names rs
 put_none names rs x a all e =
     let past = number_past names x e in
     put_at names rs x a all ∙ ap (with_names names) (set_past rs (place_of names x) a (omega (arith, past, all)))

@@ -1,4 +1,4 @@
--- The outputs behind a trace: the last values that were put.
+-- The outputs behind a trace: the last values that were put_value.
 use Rattle.std.proofs.Common.{◌≡◌, ◌≢◌, ℕ, suc, ◌<◌, List, [], ◌∷◌, ◌++◌, length, map, drop, take, get_or, Bool, true, false, Option, Some, None, refl, sym, ap, ap₂, ◌∙◌, subst, arith, append_assoc}
 use Rattle.std.specs.Prelude.{if◌then◌else◌, unwrap_or, ⊤}
 use Rattle.std.specs.Option.{option_or, option_map}
@@ -12,7 +12,7 @@ use Rattle.pap_types.specs.Checks.{IsWellTyped}
 use Rattle.pap_types.specs.Meaning.{AreInputs, IsSafeFor, first_entry, given, start, outputs_in}
 use Rattle.pap_types.specs.Scopes.{names_of, variables_of}
 use Rattle.pap_types.specs.Typing.{AreDistinct, declarations_of}
-use Rattle.pap_types.specs.Values.{Env, Entry, put}
+use Rattle.pap_types.specs.Values.{Env, Variable, put_value}
 use Rattle.pap_types.proofs.Laws.{has_types, entry_names, names-put, names-start}
 use Rattle.month_trace.specs.declared.step.TraceStep.{TraceStep}
 use Rattle.month_trace.specs.declared.step.TraceStep.TheVariants.{Set, Test, Enter}
@@ -59,11 +59,11 @@ front_apart (x ∷ a) b h = (front_none x a b h.0, front_apart a b h.1)
 
 -- ---- a variable behind steps
 
--- its value: the last that was put, else what it was
-abbrev pub value_behind : List TraceStep → Entry → Decimal
+-- its value: the last that was put_value, else what it was
+abbrev pub value_behind : List TraceStep → Variable → Decimal
 value_behind steps v = unwrap_or (last_set v.name steps) v.value
 
-abbrev pub behind : List TraceStep → Entry → Entry
+abbrev pub behind : List TraceStep → Variable → Variable
 behind steps v = record v { value = value_behind steps v }
 
 last_by : (o : Option Decimal) (t : Bool) (v w : Decimal)
@@ -83,7 +83,7 @@ others_stay steps m n x v (e ∷ env) h =
     ap₂ (λ d rest. record e { value = d } ∷ rest) mine (others_stay steps m n x v env h.1)
 
 put_behind : (steps : List TraceStep) (m : List ℕ) (n : ℕ) (x : List ℕ) (v : Decimal) (env : Env)
-    → AreApart (entry_names env) → map (behind steps) (put env x v) ≡ map (behind (Set m n x v ∷ steps)) env
+    → AreApart (entry_names env) → map (behind steps) (put_value env x v) ≡ map (behind (Set m n x v ∷ steps)) env
 put_behind steps m n x v [] h = refl
 put_behind steps m n x v (e ∷ env) h = by_name (put_behind steps m n x v env h.1) (bytes_eq e.name x) refl
   where
@@ -96,9 +96,9 @@ put_behind steps m n x v (e ∷ env) h = by_name (put_behind steps m n x v env h
     same_name : bytes_eq e.name x ≡ true → e.name ≡ x
     same_name is = grind (arith, bytes_eq-Decides)
 
-    by_name : map (behind steps) (put env x v) ≡ map (behind (Set m n x v ∷ steps)) env → (t : Bool)
+    by_name : map (behind steps) (put_value env x v) ≡ map (behind (Set m n x v ∷ steps)) env → (t : Bool)
         → bytes_eq e.name x ≡ t
-        → map (behind steps) (if t then record e { value = v } ∷ env else e ∷ put env x v) ≡ map
+        → map (behind steps) (if t then record e { value = v } ∷ env else e ∷ put_value env x v) ≡ map
         (behind (Set m n x v ∷ steps)) (e ∷ env)
     by_name later true is =
         ap₂ (λ d rest. record e { value = d } ∷ rest) (mine true is)
@@ -123,25 +123,25 @@ pub replayed_is : (steps : List TraceStep) (env : Env) → AreApart (entry_names
     → replayed steps env ≡ map (behind steps) env
 replayed_is [] env h = nothing_behind env
 replayed_is (Set m n x v ∷ steps) env h =
-    replayed_is steps (put env x v) (subst AreApart (sym (names-put env x v)) h) ∙ put_behind steps m n x v env h
+    replayed_is steps (put_value env x v) (subst AreApart (sym (names-put env x v)) h) ∙ put_behind steps m n x v env h
 replayed_is (Test m n holds ∷ steps) env h = replayed_is steps env h ∙ silent steps (Test m n holds) env (λ x. refl)
 replayed_is (Enter m n callee ∷ steps) env h = replayed_is steps env h ∙ silent steps (Enter m n callee) env (λ x. refl)
 
 -- ---- outputs
 
 values_behind : (steps : List TraceStep) (env : Env)
-    → map (λ (v : Entry). v.value) (map (behind steps) env) ≡ map (value_behind steps) env
+    → map (λ (v : Variable). v.value) (map (behind steps) env) ≡ map (value_behind steps) env
 values_behind steps [] = refl
 values_behind steps (e ∷ env) = ap (λ rest. value_behind steps e ∷ rest) (values_behind steps env)
 
-past_inputs : (g : Entry → Decimal) (ds : List Declaration) (vs : List Decimal) (rest : Env) → AreInputs ds vs
+past_inputs : (g : Variable → Decimal) (ds : List Declaration) (vs : List Decimal) (rest : Env) → AreInputs ds vs
     → drop (length ds) (map g (given ds vs ++ rest)) ≡ map g rest
 past_inputs g [] [] rest h = refl
 past_inputs g [] (v ∷ vs) rest h = absurd h
 past_inputs g (d ∷ ds) [] rest h = absurd h
 past_inputs g (d ∷ ds) (v ∷ vs) rest h = past_inputs g ds vs rest h.1
 
-up_to_internals : (g : Entry → Decimal) (ds es : List Declaration)
+up_to_internals : (g : Variable → Decimal) (ds es : List Declaration)
     → take (length ds) (map g (map first_entry (ds ++ es))) ≡ map (λ d. g (first_entry d)) ds
 up_to_internals g [] es = refl
 up_to_internals g (d ∷ ds) es = ap (λ rest. g (first_entry d) ∷ rest) (up_to_internals g ds es)

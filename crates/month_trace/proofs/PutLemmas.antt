@@ -13,7 +13,7 @@ use Rattle.pap_types.specs.declared.kinds.NodeKind.{NodeKind}
 use Rattle.pap_types.specs.Kinds.{suits, is_factor_literal}
 use Rattle.pap_types.specs.Runs.{assigned}
 use Rattle.pap_types.specs.Scopes.{Scope, names_of, number_of, declared_as, declaration_in}
-use Rattle.pap_types.specs.Values.{Env, value, put}
+use Rattle.pap_types.specs.Values.{Env, value, put_value}
 use Rattle.pap_types.proofs.Laws.{declared_by}
 use Rattle.month_trace.specs.Traces.{value_put}
 use Rattle.pap_types.specs.private.ScopeViews.{scope_in, variables_in}
@@ -42,7 +42,7 @@ pub put_kept : (p : PlanText) (vs : List Decimal) (x : List ℕ) (a kept : Decim
     → Some i ≡ number_of (variables_in p) x → kept ≡ value_put (scope_in p) x a
     → values_in p (set vs i kept) ≡ assigned (scope_in p) x a (values_in p vs)
 put_kept p vs x a kept i sized number is =
-    sym (put_by (variables_in p) vs x kept i sized (sym number)) ∙ ap (put (values_in p vs) x) is
+    sym (put_by (variables_in p) vs x kept i sized (sym number)) ∙ ap (put_value (values_in p vs) x) is
 
 -- ---- a literal that goes to a `double`
 

@@ -13,7 +13,7 @@ use Rattle.pap_types.specs.Routines.{body_named}
 use Rattle.pap_tree.specs.Names.{main_name}
 use Rattle.pap_types.specs.Runs.{Calls, after, assigned, calls_of}
 use Rattle.pap_types.specs.Scopes.{Scope, scope_of}
-use Rattle.pap_types.specs.Values.{Env, put, value}
+use Rattle.pap_types.specs.Values.{Env, put_value, value}
 use Rattle.month_trace.specs.declared.step.TraceStep.{TraceStep}
 use Rattle.month_trace.specs.declared.step.TraceStep.TheVariants.{Set, Test, Enter}
 use Rattle.month_trace.specs.Traces.{Trace, first_then, both_in_order, value_put, traced, traces_of, trace_of}
@@ -21,13 +21,13 @@ use Rattle.month_trace.specs.Traces.{Trace, first_then, both_in_order, value_put
 -- the variables behind the assignments of steps
 abbrev pub replayed : List TraceStep → Env → Env
 replayed [] env = env
-replayed (Set m n x v ∷ steps) env = replayed steps (put env x v)
+replayed (Set m n x v ∷ steps) env = replayed steps (put_value env x v)
 replayed (Test m n holds ∷ steps) env = replayed steps env
 replayed (Enter m n callee ∷ steps) env = replayed steps env
 
 replayed-append : (xs ys : List TraceStep) (env : Env) → replayed (xs ++ ys) env ≡ replayed ys (replayed xs env)
 replayed-append [] ys env = refl
-replayed-append (Set m n x v ∷ xs) ys env = replayed-append xs ys (put env x v)
+replayed-append (Set m n x v ∷ xs) ys env = replayed-append xs ys (put_value env x v)
 replayed-append (Test m n holds ∷ xs) ys env = replayed-append xs ys env
 replayed-append (Enter m n callee ∷ xs) ys env = replayed-append xs ys env
 

@@ -12,7 +12,7 @@ use Rattle.carry_bindings.specs.declared.filling.Filled.TheVariants.{Inputs, Sta
 use Rattle.carry_bindings.specs.declared.filling.Blocked.TheVariants as blocked
 use Rattle.pap_types.specs.Meaning.{outputs_in, cost_of}
 use Rattle.pap_plan.specs.declared.refusal.PlanRefusal.{PlanRefusal}
-use Rattle.pap_plan.specs.Acceptance.{Meaning, Answers, IsAccepted}
+use Rattle.pap_plan.specs.Acceptance.{Meaning, AcceptanceSays, IsAccepted}
 use Rattle.pap_plan.proofs.Laws as plans
 use Rattle.payroll_records.specs.ValueWords.{AreValueWords, IsValueWord}
 use Rattle.pay_run.specs.Accepted.{Accepted}
@@ -68,7 +68,7 @@ some_run values p kept h = by (filled p values []) refl
 some_once : (values : List NamedValue) → All IsKeptValue values → (plan limits : List ℕ) → (a : Answer) × OnceAnswers values plan limits a
 some_once values kept plan limits = let v = plans.some plan limits in by v.0 v.1
   where
-    by : (v : Result Meaning PlanRefusal) → Answers plan limits v → (a : Answer) × OnceAnswers values plan limits a
+    by : (v : Result Meaning PlanRefusal) → AcceptanceSays plan limits v → (a : Answer) × OnceAnswers values plan limits a
     by (Err r) h = let w = some_refusal plan limits r h in (w.0, record { verdict = Err r; accepted = h; is = w.1 })
     by (Ok m) h =
         let ran = some_run values (record { plan = plan; limits = limits; meaning = m }) kept h in
@@ -82,7 +82,7 @@ once_answers values kept plan limits = record { some = some_once values kept pla
 pub printed_holds : PrintedAcceptanceHolds
 printed_holds plan limits more steps answer h read = by h.verdict h.accepted h.is
   where
-    by : (v : Result Meaning PlanRefusal) → Answers plan limits v → IsChecked plan v answer
+    by : (v : Result Meaning PlanRefusal) → AcceptanceSays plan limits v → IsChecked plan v answer
         → NeverFailsWithin plan limits steps
     by (Ok m) accepted is =
         let printed = ap (λ (a : Answer). a.text) is in

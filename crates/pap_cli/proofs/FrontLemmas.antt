@@ -2,7 +2,7 @@
 use Rattle.std.proofs.Common.{ℕ, ◌<◌, List, take, subst, arith}
 use Rattle.std.specs.Prelude.{Result, Ok, Err}
 use Rattle.pap_plan.specs.declared.refusal.PlanRefusal.{PlanRefusal}
-use Rattle.pap_plan.specs.Acceptance.{Meaning, Answers}
+use Rattle.pap_plan.specs.Acceptance.{Meaning, AcceptanceSays}
 use Rattle.outside.specs.Told.{FileMap}
 use Rattle.plan_answers.specs.Answers.{Answer}
 use Rattle.plan_answers.specs.Fronts.{AreFronts}
@@ -21,7 +21,7 @@ module _ (n m : ℕ) (more_plan : 1048576 < n) (more_limits : 262144 < m) where
     accepted = answers_front n m more_plan more_limits plan limits h.verdict h.accepted;
     is = once_front h.verdict h.accepted h.is;
   } where
-    once_front : (v : Result Meaning PlanRefusal) → Answers (take n plan) (take m limits) v → IsOnce values (take n plan) (take m limits) v a → IsOnce values plan limits v a
+    once_front : (v : Result Meaning PlanRefusal) → AcceptanceSays (take n plan) (take m limits) v → IsOnce values (take n plan) (take m limits) v a → IsOnce values plan limits v a
     once_front (Ok x) accepted k =
         let whole = accepted_whole n m more_plan more_limits plan limits x accepted in
         subst (λ l. IsOnce values plan l (Ok x) a) whole.1 (subst (λ p. IsOnce values p (take m limits) (Ok x) a) whole.0 k)

@@ -4,7 +4,7 @@ use Rattle.std.specs.Prelude.{fold}
 use Rattle.std.specs.List.{AllByRecursion, filter_map, cons_option}
 use Rattle.scaled_decimal.specs.Decimals.{Decimal, sum}
 use Rattle.limits_file.specs.Limits.{IsWithinBound}
-use Rattle.book_year.specs.Rows.{outputs_in}
+use Rattle.book_year.specs.Rows.{done_outputs}
 use Rattle.recalc_engine.specs.MonthRows.{KeyedRow}
 use Rattle.recalc_engine.specs.RowLaws.{HasBound}
 use Rattle.carry_bindings.specs.Carrying.{total, zero_amount}
@@ -30,7 +30,7 @@ begins rows zero_sum is within few = record {
 }
 
 tax_bounded : (row : KeyedRow) (d : Decimal) → HasBound row → tax_of row ≡ Some d → IsWithinBound d
-tax_bounded row d h e = amount_by _ (outputs_in row.state) d h e
+tax_bounded row d h e = amount_by _ (done_outputs row.state) d h e
 
 pub tax_fits : (rows : List KeyedRow) (row : KeyedRow) (rest : List KeyedRow) (so_far : Decimal) → IsUnderway rows (row ∷ rest) so_far → TaxFits so_far row
 tax_fits rows row rest so_far h = λ d e. sum_fits h.count (omega (arith, h.few)) so_far d h.partial (tax_bounded row d h.within.0 e)

@@ -8,7 +8,7 @@ use Rattle.carry_bindings.specs.declared.filling.Blocked.TheVariants as blocked
 use Rattle.carry_bindings.specs.declared.filling.Filled.{Filled}
 use Rattle.carry_bindings.specs.declared.filling.Filled.TheVariants.{Inputs, State}
 use Rattle.pap_plan.specs.declared.refusal.PlanRefusal.{PlanRefusal}
-use Rattle.pap_plan.specs.Acceptance.{Meaning, Answers}
+use Rattle.pap_plan.specs.Acceptance.{Meaning, AcceptanceSays}
 use Rattle.pay_run.specs.Accepted.{Accepted}
 use Rattle.pay_run.specs.Runs.{filled}
 use Rattle.plan_answers.specs.Answers.{Answer, refusal, IsRefusal}
@@ -41,5 +41,5 @@ IsOnce values plan limits (Err r) answer = IsRefusal plan r answer
 -- the answer of `once` with these values on two texts
 pub record OnceAnswers (values : List NamedValue) (plan limits : List ℕ) (answer : Answer) : Type 0 where
   pub verdict : Result Meaning PlanRefusal
-  pub accepted : Answers plan limits verdict
+  pub accepted : AcceptanceSays plan limits verdict
   pub is : IsOnce values plan limits verdict answer

@@ -4,7 +4,7 @@ use Rattle.std.specs.Fmt.{decimal as number}
 use Rattle.std.specs.List.{filter_map}
 use Rattle.scaled_decimal.specs.Decimals.{Decimal}
 use Rattle.carry_bindings.specs.Carrying.{named, total}
-use Rattle.book_year.specs.Rows.{outputs_in}
+use Rattle.book_year.specs.Rows.{done_outputs}
 use Rattle.book_year.specs.declared.outcome.Work.{Work}
 use Rattle.recalc_engine.specs.Contents.{Contents}
 use Rattle.recalc_engine.specs.MonthRows.{KeyedRow, month_rows}
@@ -18,7 +18,7 @@ use Rattle.pap_cli.specs.RunLines.{value_line}
 
 -- the LST of a run, where it has one
 abbrev pub tax_of : KeyedRow → Option Decimal
-tax_of row = option_and_then (named (codes "LST")) (outputs_in row.state)
+tax_of row = option_and_then (named (codes "LST")) (done_outputs row.state)
 
 -- the LST of all runs of a book, added up
 abbrev pub tax_sum : Contents → Decimal

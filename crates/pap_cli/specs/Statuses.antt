@@ -6,15 +6,15 @@ use Rattle.pap_cli.specs.declared.status.Status.{Status}
 use Rattle.pap_cli.specs.declared.status.Status.TheVariants.{Done, Refused, BadWords, FileFault, ReadFault, WriteFault, NoMemory, ScriptLong}
 
 -- the number of a status, with which the program ends
-abbrev pub number_of : Status → ℕ
-number_of Done = 0
-number_of Refused = 1
-number_of BadWords = 2
-number_of FileFault = 3
-number_of ReadFault = 4
-number_of WriteFault = 5
-number_of NoMemory = 6
-number_of ScriptLong = 7
+abbrev pub status_number : Status → ℕ
+status_number Done = 0
+status_number Refused = 1
+status_number BadWords = 2
+status_number FileFault = 3
+status_number ReadFault = 4
+status_number WriteFault = 5
+status_number NoMemory = 6
+status_number ScriptLong = 7
 
 -- the status of an answer that was written whole
 abbrev pub done_status : Bool → Status

@@ -1,6 +1,6 @@
 //! How a call ends.
 ghost use Rattle.std.specs.Prelude.{◌≡◌};
-ghost use Rattle.pap_cli.specs.Statuses.{number_of};
+ghost use Rattle.pap_cli.specs.Statuses.{status_number};
 
 /// How a call of [`papcalc`](crate::papcalc) ended.
 #[derive(Clone, Copy, Debug, PartialEq, Eq)]
@@ -26,7 +26,7 @@ pub enum Status {
 impl Status {
     /// The number with which the program ends, from 0 to 7.
     pub fn number(self) -> u8
-        ensures { result ≡ number_of self }
+        ensures { result ≡ status_number self }
     {
         match self {
             Status::Done => 0,

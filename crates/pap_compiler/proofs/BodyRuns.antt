@@ -13,13 +13,13 @@ use Rattle.pap_tree.specs.Declarations.{Declaration}
 use Rattle.pap_types.specs.Scopes.{Scope, kept_as, at_factor_scale, names_of}
 use Rattle.pap_types.specs.Kinds.{kind_of, name_kind, is_whole, is_truth, declared_kind, suits, is_factor_literal}
 use Rattle.pap_types.specs.Operations.{is_zero}
-use Rattle.pap_types.specs.Values.{Env, put, value, cost}
+use Rattle.pap_types.specs.Values.{Env, put_value, value, cost}
 use Rattle.pap_types.specs.Safety.{IsSafe}
 use Rattle.pap_types.specs.Runs.{Calls, assigned, after, spent, IsSafeBody}
 use Rattle.pap_machine.specs.declared.code.Instr.{Instr}
 use Rattle.pap_machine.specs.declared.code.Instr.TheVariants as i
 use Rattle.pap_machine.specs.Code.{Program}
-use Rattle.pap_machine.specs.Machine.{State, state_of, gone, Leads}
+use Rattle.pap_machine.specs.Machine.{MachineState, machine_state, gone, Leads}
 use Rattle.pap_machine.proofs.Laws.{leads_none, leads_one, leads_on, puts, stores, branches, calls_on}
 use Rattle.pap_compiler.specs.Heights.{term_height, body_height}
 use Rattle.pap_compiler.specs.Depths.{body_depth}
@@ -56,14 +56,14 @@ module _ (scope : Scope) (p : Program) (ready : IsSet scope p) where
   ready_in env held = record { tables = ready.tables; held = held; types = ready.types; distinct = ready.distinct }
 
   -- between two statements
-  abbrev pub between : ℕ → Env → List ℕ → State
-  between at env cs = state_of at [] (values_of env) cs
+  abbrev pub between : ℕ → Env → List ℕ → MachineState
+  between at env cs = machine_state at [] (values_of env) cs
 
-  as_cost : (m n : ℕ) (s t : State) → m ≡ n → Leads p m s t → Leads p n s t
+  as_cost : (m n : ℕ) (s t : MachineState) → m ≡ n → Leads p m s t → Leads p n s t
   as_cost m n s t e f = subst (λ k. Leads p k s t) e f
 
-  as_place : (n : ℕ) (s : State) (at to : ℕ) (stack slots : List Decimal) (cs : List ℕ) → at ≡ to → Leads p n s (state_of at stack slots cs) → Leads p n s (state_of to stack slots cs)
-  as_place n s at to stack slots cs e f = subst (λ k. Leads p n s (state_of k stack slots cs)) e f
+  as_place : (n : ℕ) (s : MachineState) (at to : ℕ) (stack slots : List Decimal) (cs : List ℕ) → at ≡ to → Leads p n s (machine_state at stack slots cs) → Leads p n s (machine_state to stack slots cs)
+  as_place n s at to stack slots cs e f = subst (λ k. Leads p n s (machine_state k stack slots cs)) e f
 
   -- ---- assignments
 
@@ -71,14 +71,14 @@ module _ (scope : Scope) (p : Program) (ready : IsSet scope p) where
   abbrev Leaves : DeclaredKind → Term → ℕ → Env → List ℕ → Type 0
   Leaves k e at env cs =
       (v : Decimal) → term_height e ≤ p.height → IsSafe scope e env → value scope e env ≡ Some v → HasAt p.instrs at (assigned_code (declared_kind k) e (term_code scope at e)) →
-      Leads p (cost scope e env) (between at env cs) (state_of (at + term_length e) (kept_as k v ∷ []) (values_of env) cs)
+      Leads p (cost scope e env) (between at env cs) (machine_state (at + term_length e) (kept_as k v ∷ []) (values_of env) cs)
 
-  literal : (at : ℕ) (env : Env) (cs : List ℕ) (v d : Decimal) → v ≡ d → 1 ≤ p.height → slice_get p.instrs at ≡ Some (i.Lit v) → Leads p 1 (between at env cs) (state_of (at + 1) (d ∷ []) (values_of env) cs)
+  literal : (at : ℕ) (env : Env) (cs : List ℕ) (v d : Decimal) → v ≡ d → 1 ≤ p.height → slice_get p.instrs at ≡ Some (i.Lit v) → Leads p 1 (between at env cs) (machine_state (at + 1) (d ∷ []) (values_of env) cs)
   literal at env cs v d same room has =
-      leads_one p (between at env cs) (state_of (at + 1) (d ∷ []) (values_of env) cs) (i.Lit v) has
+      leads_one p (between at env cs) (machine_state (at + 1) (d ∷ []) (values_of env) cs) (i.Lit v) has
       (puts at (values_of env) cs p.height (λ e. e ≡ v) d [] (omega (arith, room)) (sym same))
 
-  general : (e : Term) (at : ℕ) (env : Env) (cs : List ℕ) → AreHeld scope.variables env → IsTypedTerm scope e → (v : Decimal) → term_height e ≤ p.height → IsSafe scope e env → value scope e env ≡ Some v → HasAt p.instrs at (term_code scope at e) → Leads p (cost scope e env) (between at env cs) (state_of (at + term_length e) (v ∷ []) (values_of env) cs)
+  general : (e : Term) (at : ℕ) (env : Env) (cs : List ℕ) → AreHeld scope.variables env → IsTypedTerm scope e → (v : Decimal) → term_height e ≤ p.height → IsSafe scope e env → value scope e env ≡ Some v → HasAt p.instrs at (term_code scope at e) → Leads p (cost scope e env) (between at env cs) (machine_state (at + term_length e) (v ∷ []) (values_of env) cs)
   general e at env cs held typed v room safe is has = term_runs scope p env cs (ready_in env held) e at typed has [] v (omega (arith, room)) safe is
 
   factor_leaves : (e : Term) (at : ℕ) (env : Env) (cs : List ℕ) → is_factor_literal e ≡ true → Leaves declares.Factor e at env cs
@@ -128,14 +128,14 @@ module _ (scope : Scope) (p : Program) (ready : IsSet scope p) where
         let behind = has_back p.instrs at (term_length e) code (i.Store (slot scope x) ∷ rest) (length_assigned scope (name_kind scope x) e (term_code scope at e) (length_term scope e at)) has in
         let first = assigned_leaves k e at env cs held typed fits v room safe is front in
         let place : slot scope x ≡ f.at = rw (number_is, f.number) refl in
-        let stored : Leads p 1 (state_of (at + term_length e) (kept_as k v ∷ []) (values_of env) cs) (state_of (at + term_length e + 1) [] (slice_set (values_of env) f.at (kept_as k v)) cs) =
-        leads_one p (state_of (at + term_length e) (kept_as k v ∷ []) (values_of env) cs) (state_of (at + term_length e + 1) [] (slice_set (values_of env) f.at (kept_as k v)) cs) (i.Store f.at) (behind.0 ∙ ap (λ n. Some (i.Store n)) place)
+        let stored : Leads p 1 (machine_state (at + term_length e) (kept_as k v ∷ []) (values_of env) cs) (machine_state (at + term_length e + 1) [] (slice_set (values_of env) f.at (kept_as k v)) cs) =
+        leads_one p (machine_state (at + term_length e) (kept_as k v ∷ []) (values_of env) cs) (machine_state (at + term_length e + 1) [] (slice_set (values_of env) f.at (kept_as k v)) cs) (i.Store f.at) (behind.0 ∙ ap (λ n. Some (i.Store n)) place)
         (stores (at + term_length e) (values_of env) cs f.at (kept_as k v) [] f.within) in
-        let same : assigned scope x v env ≡ put env x (kept_as k v) = rw f.declared refl in
+        let same : assigned scope x v env ≡ put_value env x (kept_as k v) = rw f.declared refl in
         let slots : slice_set (values_of env) f.at (kept_as k v) ≡ values_of (assigned scope x v env) = f.puts (kept_as k v) ∙ ap values_of (sym same) in
         record {
-          run = subst (λ s. Leads p (cost scope e env + 1) (between at env cs) (state_of (at + term_length e + 1) [] s cs)) slots
-              (leads_on p (cost scope e env) 1 (between at env cs) (state_of (at + term_length e) (kept_as k v ∷ []) (values_of env) cs) (state_of (at + term_length e + 1) [] (slice_set (values_of env) f.at (kept_as k v)) cs) first stored);
+          run = subst (λ s. Leads p (cost scope e env + 1) (between at env cs) (machine_state (at + term_length e + 1) [] s cs)) slots
+              (leads_on p (cost scope e env) 1 (between at env cs) (machine_state (at + term_length e) (kept_as k v ∷ []) (values_of env) cs) (machine_state (at + term_length e + 1) [] (slice_set (values_of env) f.at (kept_as k v)) cs) first stored);
           held = subst (AreHeld scope.variables) (sym same) (f.keeps (kept_as k v) (λ w. kept_whole k e env v held typed fits is w));
         })
   ]
@@ -200,12 +200,12 @@ module _ (scope : Scope) (p : Program) (ready : IsSet scope p) where
             let then_is = subst (λ x. option_and_then (after scope calls rest) (if is_zero x then after scope calls b env else after scope calls a env) ≡ Some ends) w.1 k.1.1 in
             by_truth w.0 v first then_is (safe.1 (truth w.0) v)
           where
-            by_truth : (z : Bool) → value scope t env ≡ Some (truth z) → Leads p (cost scope t env) (between at env cs) (state_of (at + term_length t) (truth z ∷ []) (values_of env) cs) → option_and_then (after scope calls rest) (if is_zero (truth z) then after scope calls b env else after scope calls a env) ≡ Some ends →
+            by_truth : (z : Bool) → value scope t env ≡ Some (truth z) → Leads p (cost scope t env) (between at env cs) (machine_state (at + term_length t) (truth z ∷ []) (values_of env) cs) → option_and_then (after scope calls rest) (if is_zero (truth z) then after scope calls b env else after scope calls a env) ≡ Some ends →
                 (is_zero (truth z) ≡ true → IsSafeBody scope calls b env) × (is_zero (truth z) ≡ false → IsSafeBody scope calls a env) × ((e : Env) → (if is_zero (truth z) then after scope calls b env else after scope calls a env) ≡ Some e → IsSafeBody scope calls rest e) →
                 Leads p (spent scope calls (branch t a b rest) env) (between at env cs) (between (at + body_length (branch t a b rest)) ends cs) × AreHeld scope.variables ends
             by_truth true v first then_is s =
                 let k = and_then_some (after scope calls rest) (after scope calls a env) ends then_is in
-                let tested = state_of (at + term_length t) (truth true ∷ []) (values_of env) cs in
+                let tested = machine_state (at + term_length t) (truth true ∷ []) (values_of env) cs in
                 let on = leads_one p tested (between yes_at env cs) (i.JumpFalse no_at) h1 (branches (at + term_length t) (values_of env) cs (λ z rest. if z then gone tested (at + term_length t + 1) rest else gone tested no_at rest) true []) in
                 let r1 = ra cs env k.0 held (omega (arith, deep_enough)) (omega (arith, high)) (s.1 refl) k.1.0 in
                 let jump = leads_one p (between (yes_at + body_length a) k.0 cs) (between rest_at k.0 cs) (i.Jump rest_at) h2 refl in
@@ -221,7 +221,7 @@ module _ (scope : Scope) (p : Program) (ready : IsSet scope p) where
                 )
             by_truth false v first then_is s =
                 let k = and_then_some (after scope calls rest) (after scope calls b env) ends then_is in
-                let tested = state_of (at + term_length t) (truth false ∷ []) (values_of env) cs in
+                let tested = machine_state (at + term_length t) (truth false ∷ []) (values_of env) cs in
                 let off = leads_one p tested (between no_at env cs) (i.JumpFalse no_at) h1 (branches (at + term_length t) (values_of env) cs (λ z rest. if z then gone tested (at + term_length t + 1) rest else gone tested no_at rest) false []) in
                 let r1 = rb cs env k.0 held (omega (arith, deep_enough)) (omega (arith, high)) (s.0 refl) k.1.0 in
                 let r2 = rr cs k.0 ends r1.1 (omega (arith, deep_enough)) (omega (arith, high)) (s.2 k.0 k.1.0) k.1.1 in

@@ -17,7 +17,7 @@ use Rattle.pap_types.specs.declared.kinds.NodeKind.{NodeKind}
 use Rattle.pap_types.specs.declared.kinds.NodeKind.TheVariants.{Int, Long, Big, Truth, Fraction, Factor, Table}
 use Rattle.pap_types.specs.Scopes.{Scope, declared_as, declaration_in, first_value, kept_as, declared_decimal}
 use Rattle.pap_types.specs.Kinds.{kind_of, name_kind, declared_kind, wider, is_whole, is_int, is_big, is_truth, are_parts}
-use Rattle.pap_types.specs.Operations.{is_zero, of_two, unless_zero, compared}
+use Rattle.pap_types.specs.Operations.{is_zero, of_two, unless_zero, comparison_value}
 use Rattle.pap_types.specs.Values.{Env, value, named_value, goes_right}
 use Rattle.pap_types.specs.Checks.{is_of_type}
 use Rattle.pap_types.specs.Typing.{IsTypedTerm, HasItsType}
@@ -189,7 +189,7 @@ module _ (scope : Scope) (env : Env) where
           subst IsTruthValue same (right k.0 k.1.0)
       by_right a is false g = let same : a ≡ d = cc in subst IsTruthValue same (left a is)
 
-  comparison_truth : (op : Binary) (e f : Term) (d : Decimal) → ((a : Decimal) → goes_right (operator op) a ≡ true) → ((a b : Decimal) → of_two (operator op) a b ≡ compared op a b) → value scope (two (operator op) e f) env ≡ Some d → IsTruthValue d
+  comparison_truth : (op : Binary) (e f : Term) (d : Decimal) → ((a : Decimal) → goes_right (operator op) a ≡ true) → ((a b : Decimal) → of_two (operator op) a b ≡ comparison_value op a b) → value scope (two (operator op) e f) env ≡ Some d → IsTruthValue d
   comparison_truth op e f d goes gives h =
       let k = and_then_some (λ a. if goes_right (operator op) a then option_and_then (λ b. of_two (operator op) a b) (value scope f env) else Some a) (value scope e env) d h in
       let g : option_and_then (λ b. of_two (operator op) k.0 b) (value scope f env) ≡ Some d = subst (λ t. (if t then option_and_then (λ b. of_two (operator op) k.0 b) (value scope f env) else Some k.0) ≡ Some d) (goes k.0) k.1.1 in

@@ -11,7 +11,7 @@ use Rattle.scaled_decimal.specs.Decimals.{Decimal, scale_of}
 use Rattle.pap_tree.specs.Declarations.{Declaration}
 use Rattle.pap_types.specs.Scopes.{declared_as, names_of, number_of}
 use Rattle.pap_types.specs.Kinds.{declared_kind, is_whole}
-use Rattle.pap_types.specs.Values.{Env, Entry, look, put}
+use Rattle.pap_types.specs.Values.{Env, Variable, look, put_value}
 use Rattle.pap_types.specs.Typing.{AreDistinct}
 
 -- ---- names that are the same
@@ -78,10 +78,10 @@ pub record IsFound (ds : List Declaration) (env : Env) (x : List ℕ) : Type 0 w
   pub within : at < length (values_of env)
   pub there : slice_get (values_of env) at ≡ Some value
   pub whole : is_whole (declared_kind declaration.kind) ≡ true → scale_of value ≡ 0
-  pub puts : (e : Decimal) → slice_set (values_of env) at e ≡ values_of (put env x e)
-  pub keeps : (e : Decimal) → (is_whole (declared_kind declaration.kind) ≡ true → scale_of e ≡ 0) → AreHeld ds (put env x e)
+  pub puts : (e : Decimal) → slice_set (values_of env) at e ≡ values_of (put_value env x e)
+  pub keeps : (e : Decimal) → (is_whole (declared_kind declaration.kind) ≡ true → scale_of e ≡ 0) → AreHeld ds (put_value env x e)
 
-module _ (d : Declaration) (ds : List Declaration) (v : Entry) (vs : Env) (x : List ℕ) (name : v.name ≡ d.name) (whole : is_whole (declared_kind d.kind) ≡ true → scale_of v.value ≡ 0) (held : AreHeld ds vs) where
+module _ (d : Declaration) (ds : List Declaration) (v : Variable) (vs : Env) (x : List ℕ) (name : v.name ≡ d.name) (whole : is_whole (declared_kind d.kind) ≡ true → scale_of v.value ≡ 0) (held : AreHeld ds vs) where
   here : bytes_eq x d.name ≡ true → bytes_eq v.name x ≡ true → IsFound (d ∷ ds) (v ∷ vs) x
   here s t = record {
     declaration = d;

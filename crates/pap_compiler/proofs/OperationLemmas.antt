@@ -25,8 +25,8 @@ use Rattle.pap_types.specs.Safety.{bits_of, OneFits, TwoFits}
 use Rattle.pap_machine.specs.declared.code.Instr.{Instr}
 use Rattle.pap_machine.specs.declared.code.Instr.TheVariants as i
 use Rattle.pap_machine.specs.Code.{Program}
-use Rattle.pap_machine.specs.Machine.{State, state_of, Does, Works, Two as TwoStacked}
-use Rattle.pap_machine.specs.Operations.{IsWhole, IsTruth, IsWholeWithPlaces, DivisionFits, ExactDivisionFits, WholeFits, WholeDivisionFits, OppositeFits}
+use Rattle.pap_machine.specs.Machine.{MachineState, machine_state, Performs, Works, WorksOnTwo as TwoStacked}
+use Rattle.pap_machine.specs.Operations.{HasScaleZero, IsTruth, IsWholeWithPlaces, DivisionFits, ExactDivisionFits, WholeFits, WholeDivisionFits, OppositeFits}
 use Rattle.pap_machine.proofs.Laws.{one, two}
 use Rattle.pap_compiler.specs.CodeDecisions.{instr_of_one, instr_of_two, shown_number}
 use Rattle.pap_compiler.proofs.KindLemmas.{both_true, IsTruthValue, some_is, unless_some}
@@ -83,9 +83,9 @@ operand_value _ e a = a
 module _ (scope : Scope) (p : Program) (pc : ℕ) (slots : List Decimal) (calls : List ℕ) (stack : List Decimal) where
   -- the instruction takes this stack to that one
   abbrev pub Leaves : Instr → List Decimal → List Decimal → Type 0
-  Leaves j old new = Does p j (state_of pc old slots calls) (state_of (pc + 1) new slots calls)
+  Leaves j old new = Performs p j (machine_state pc old slots calls) (machine_state (pc + 1) new slots calls)
 
-  pub one_leaves : (op : One) (e : Term) (k : NodeKind) (a : Decimal) → takes_one op k ≡ true → (is_whole k ≡ true → IsWhole a) → (is_truth k ≡ true → IsTruthValue a) → OneFits op (kind_of_one op k) a →
+  pub one_leaves : (op : One) (e : Term) (k : NodeKind) (a : Decimal) → takes_one op k ≡ true → (is_whole k ≡ true → HasScaleZero a) → (is_truth k ≡ true → IsTruthValue a) → OneFits op (kind_of_one op k) a →
       Leaves (instr_of_one op) (operand_value op e a ∷ stack) (of_one op e a ∷ stack)
   one_leaves (unary Minus) e k a takes whole bit fits =
       one pc slots calls (OppositeFits whole_opposite) (of_whole whole_opposite) a stack (record { number = whole takes; fits = kind_fits k (whole_opposite (numerator_of a)) fits })
@@ -105,14 +105,14 @@ module _ (scope : Scope) (p : Program) (pc : ℕ) (slots : List Decimal) (calls 
   as_meant : (j : Instr) (old : List Decimal) (x d : Decimal) → x ≡ d → Leaves j old (x ∷ stack) → Leaves j old (d ∷ stack)
   as_meant j old x d same f = subst (λ v. Leaves j old (v ∷ stack)) same f
 
-  compares : (j : Instr) (op : Binary) (holds : Ordering → Bool) (a b d : Decimal) → ((s t : State) → Works (TwoStacked ComparisonFits (λ a b. truth (holds (value_order a b)))) s t → Does p j s t) → ((o : Ordering) → holds o ≡ holds_of op o) → ComparisonFits a b → Some (truth (holds_of op (value_order a b))) ≡ Some d → Leaves j (b ∷ a ∷ stack) (d ∷ stack)
+  compares : (j : Instr) (op : Binary) (holds : Ordering → Bool) (a b d : Decimal) → ((s t : MachineState) → Works (TwoStacked ComparisonFits (λ a b. truth (holds (value_order a b)))) s t → Performs p j s t) → ((o : Ordering) → holds o ≡ holds_of op o) → ComparisonFits a b → Some (truth (holds_of op (value_order a b))) ≡ Some d → Leaves j (b ∷ a ∷ stack) (d ∷ stack)
   compares j op holds a b d does is fits e =
       as_meant j (b ∷ a ∷ stack) (truth (holds (value_order a b))) d (ap truth (is (value_order a b)) ∙ some_is _ d e)
-      (does (state_of pc (b ∷ a ∷ stack) slots calls) (state_of (pc + 1) (truth (holds (value_order a b)) ∷ stack) slots calls)
+      (does (machine_state pc (b ∷ a ∷ stack) slots calls) (machine_state (pc + 1) (truth (holds (value_order a b)) ∷ stack) slots calls)
       (two pc slots calls ComparisonFits (λ a b. truth (holds (value_order a b))) a b stack fits))
 
   -- two whole numbers, whose result fits the kind
-  wholes_fit : (result : ℤ → ℤ → ℤ) (j k node : NodeKind) (a b : Decimal) → (is_whole j && is_whole k) ≡ true → (is_whole j ≡ true → IsWhole a) → (is_whole k ≡ true → IsWhole b) → IsOfBits (bits_of node) (result (numerator_of a) (numerator_of b)) → WholeFits result a b
+  wholes_fit : (result : ℤ → ℤ → ℤ) (j k node : NodeKind) (a b : Decimal) → (is_whole j && is_whole k) ≡ true → (is_whole j ≡ true → HasScaleZero a) → (is_whole k ≡ true → HasScaleZero b) → IsOfBits (bits_of node) (result (numerator_of a) (numerator_of b)) → WholeFits result a b
   wholes_fit result j k node a b takes left right fits =
       let w = both_true (is_whole j) (is_whole k) takes in
       record { left = left w.0; right = right w.1; fits = kind_fits node (result (numerator_of a) (numerator_of b)) fits }
@@ -121,7 +121,7 @@ module _ (scope : Scope) (p : Program) (pc : ℕ) (slots : List Decimal) (calls 
   divides_fit result a b z w = record { not_zero = not_zero b z; whole = w }
 
   -- of an operation other than && and ||
-  pub two_leaves : (op : Two) (e f : Term) (j k : NodeKind) (a b d : Decimal) → takes_two scope op e j f k ≡ true → (is_whole j ≡ true → IsWhole a) → (is_whole k ≡ true → IsWhole b) →
+  pub two_leaves : (op : Two) (e f : Term) (j k : NodeKind) (a b d : Decimal) → takes_two scope op e j f k ≡ true → (is_whole j ≡ true → HasScaleZero a) → (is_whole k ≡ true → HasScaleZero b) →
       (shows_plain_divisor scope f ≡ true → (numerator_of b ≡ shown_number scope f) × IsPlainDivisor (shown_number scope f)) →
       op ≢ operator binaries.And → op ≢ operator binaries.Or → TwoFits op (kind_of_two op j k) a b → of_two op a b ≡ Some d → Leaves (instr_of_two scope op f) (b ∷ a ∷ stack) (d ∷ stack)
   two_leaves (operator binaries.Mul) e f j k a b d takes left right shown nand nor fits g =

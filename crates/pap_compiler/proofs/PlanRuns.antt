@@ -22,7 +22,7 @@ use Rattle.pap_types.specs.Meaning.{calls_in, given, first_entry, start, SuitsKi
 use Rattle.pap_types.specs.Checks.{IsWellTyped}
 use Rattle.pap_machine.specs.declared.code.Instr.TheVariants as i
 use Rattle.pap_machine.specs.Code.{Program}
-use Rattle.pap_machine.specs.Machine.{state_of, Leads, Runs as RunsCode, HoldAt, with_inputs, beginning}
+use Rattle.pap_machine.specs.Machine.{machine_state, Leads, Runs as RunsCode, HoldAt, slots_with_inputs, beginning}
 use Rattle.pap_machine.proofs.Laws.{leads_one, leads_on, returns_to, ends_there}
 use Rattle.pap_compiler.specs.Heights.{body_height, methods_height}
 use Rattle.pap_compiler.specs.Depths.{body_depth, method_depth}
@@ -182,11 +182,11 @@ whole_run f typed inputs s =
     let called = calls_run scope p ready f.methods at typed.methods (omega arith) methods longest_chain in
     let first : All HasItsType (f.outputs ++ f.internals) = types_behind f.inputs (f.outputs ++ f.internals) (types_before vs f.constants types) in
     let held : AreHeld vs (start f inputs) = given_held f.inputs (f.outputs ++ f.internals) inputs (map first_entry (f.outputs ++ f.internals)) s.given (first_held (f.outputs ++ f.internals) first) in
-    let values : values_of (start f inputs) ≡ with_inputs p inputs = given_values f.inputs (f.outputs ++ f.internals) inputs (map first_entry (f.outputs ++ f.internals)) s.given (first_values (f.outputs ++ f.internals)) in
+    let values : values_of (start f inputs) ≡ slots_with_inputs p inputs = given_values f.inputs (f.outputs ++ f.internals) inputs (map first_entry (f.outputs ++ f.internals)) s.given (first_values (f.outputs ++ f.internals)) in
     let run = body_runs scope p ready to f.methods (calls_in f) (method_depth f.methods longest_chain) called f.main 0 typed.main (has_front p.instrs 0 main rest has) [] (start f inputs) s.ends held (omega arith) (omega arith) s.safe s.defined in
-    let begun = subst (λ l. Leads p (spent scope (calls_in f) f.main (start f inputs)) (state_of 0 [] l []) (between scope p ready (0 + body_length f.main) s.ends [])) values run.0 in
+    let begun = subst (λ l. Leads p (spent scope (calls_in f) f.main (start f inputs)) (machine_state 0 [] l []) (between scope p ready (0 + body_length f.main) s.ends [])) values run.0 in
     record {
-      run = ends_there p (spent scope (calls_in f) f.main (start f inputs)) (beginning (with_inputs p inputs)) (between scope p ready (0 + body_length f.main) s.ends []) begun behind.0;
+      run = ends_there p (spent scope (calls_in f) f.main (start f inputs)) (beginning (slots_with_inputs p inputs)) (between scope p ready (0 + body_length f.main) s.ends []) begun behind.0;
       held = run.1;
     }
 

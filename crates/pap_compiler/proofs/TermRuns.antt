@@ -18,8 +18,8 @@ use Rattle.pap_types.specs.Safety.{IsSafe}
 use Rattle.pap_machine.specs.declared.code.Instr.{Instr}
 use Rattle.pap_machine.specs.declared.code.Instr.TheVariants as i
 use Rattle.pap_machine.specs.Code.{Program}
-use Rattle.pap_machine.specs.Machine.{State, state_of, gone, Does, Leads}
-use Rattle.pap_machine.specs.Operations.{IsWhole, IsItem}
+use Rattle.pap_machine.specs.Machine.{MachineState, machine_state, gone, Performs, Leads}
+use Rattle.pap_machine.specs.Operations.{HasScaleZero, IsItem}
 use Rattle.pap_machine.proofs.Laws.{leads_one, leads_on, puts, found, branches}
 use Rattle.pap_compiler.specs.Heights.{term_height, right_height}
 use Rattle.pap_compiler.specs.CodeDecisions.{term_length, term_code, operand_code, instr_of_one, instr_of_two, name_code, table_number}
@@ -87,8 +87,8 @@ pub record IsReady (scope : Scope) (p : Program) (env : Env) : Type 0 where
   pub distinct : AreDistinct (names_of (scope.variables ++ scope.constants))
 
 module _ (scope : Scope) (p : Program) (env : Env) (calls : List ℕ) (ready : IsReady scope p env) where
-  abbrev pub at_state : ℕ → List Decimal → State
-  at_state pc stack = state_of pc stack (values_of env) calls
+  abbrev pub at_state : ℕ → List Decimal → MachineState
+  at_state pc stack = machine_state pc stack (values_of env) calls
 
   -- the expression's code stands at the place: it puts the value on the stack
   abbrev pub Gives : Term → ℕ → Type 0
@@ -96,11 +96,11 @@ module _ (scope : Scope) (p : Program) (env : Env) (calls : List ℕ) (ready : I
       Leads p (cost scope t env) (at_state at stack) (at_state (at + term_length t) (d ∷ stack))
 
   -- one more instruction
-  then_one : (n pc to : ℕ) (s : State) (old new : List Decimal) (j : Instr) → slice_get p.instrs pc ≡ Some j → Does p j (at_state pc old) (at_state (pc + 1) new) → pc + 1 ≡ to → Leads p n s (at_state pc old) → Leads p (n + 1) s (at_state to new)
+  then_one : (n pc to : ℕ) (s : MachineState) (old new : List Decimal) (j : Instr) → slice_get p.instrs pc ≡ Some j → Performs p j (at_state pc old) (at_state (pc + 1) new) → pc + 1 ≡ to → Leads p n s (at_state pc old) → Leads p (n + 1) s (at_state to new)
   then_one n pc to s old new j has does place f =
       subst (λ q. Leads p (n + 1) s (at_state q new)) place (leads_on p n 1 s (at_state pc old) (at_state (pc + 1) new) f (leads_one p (at_state pc old) (at_state (pc + 1) new) j has does))
 
-  as_cost : (m n : ℕ) (s t : State) → m ≡ n → Leads p m s t → Leads p n s t
+  as_cost : (m n : ℕ) (s t : MachineState) → m ≡ n → Leads p m s t → Leads p n s t
   as_cost m n s t e f = subst (λ k. Leads p k s t) e f
 
   -- ---- leaves
@@ -141,7 +141,7 @@ module _ (scope : Scope) (p : Program) (env : Env) (calls : List ℕ) (ready : I
   item_gives : (x : List ℕ) (e : Term) (at : ℕ) → IsTypedTerm scope (item x e) → Gives e at → slice_get p.instrs (at + term_length e) ≡ Some (i.Item (table_number scope x)) → Gives (item x e) at
   item_gives x e at typed gives has stack d room safe v =
       let k = and_then_some (λ n. item_at (table_in scope x) (numerator_of n)) (value scope e env) d v in
-      let number : IsWhole k.0 = whole_of scope env ready.held ready.types e k.0 typed.0 (int_whole (kind_of scope e) typed.1.index) k.1.0 in
+      let number : HasScaleZero k.0 = whole_of scope env ready.held ready.types e k.0 typed.0 (int_whole (kind_of scope e) typed.1.index) k.1.0 in
       let there : slice_get p.tables (table_number scope x) ≡ Some (table_in scope x) = ap (λ l. slice_get l (table_number scope x)) ready.tables ∙ table_there scope x (numerator_of k.0) d k.1.1 in
       let is : IsItem p.tables (table_number scope x) k.0 d = record { number = number; table = table_in scope x; there = there; item = k.1.1 } in
       then_one (cost scope e env) (at + term_length e) (at + (term_length e + 1)) (at_state at stack) (k.0 ∷ stack) (d ∷ stack) (i.Item (table_number scope x)) has
@@ -184,8 +184,8 @@ module _ (scope : Scope) (p : Program) (env : Env) (calls : List ℕ) (ready : I
   module _ (op : Two) (w : Bool) (goes : (b : Bool) → b ≡ w → goes_right op (truth b) ≡ true) (stays : (b : Bool) → b ≡ not w → goes_right op (truth b) ≡ false) (gives : (a b : Decimal) → of_two op a b ≡ Some b) (high : (n : ℕ) → right_height op n ≡ n) where
     -- the instruction between the operands
     record Skips (j : Instr) (pc to : ℕ) : Type 0 where
-      on : (b : Bool) (stack : List Decimal) → b ≡ w → Does p j (at_state pc (truth b ∷ stack)) (at_state (pc + 1) stack)
-      over : (b : Bool) (stack : List Decimal) → b ≡ not w → Does p j (at_state pc (truth b ∷ stack)) (at_state to (truth b ∷ stack))
+      on : (b : Bool) (stack : List Decimal) → b ≡ w → Performs p j (at_state pc (truth b ∷ stack)) (at_state (pc + 1) stack)
+      over : (b : Bool) (stack : List Decimal) → b ≡ not w → Performs p j (at_state pc (truth b ∷ stack)) (at_state to (truth b ∷ stack))
 
     joined_gives : (e f : Term) (at : ℕ) (j : Instr) → Skips j (at + term_length e) (at + term_length e + 1 + term_length f) → IsTypedTerm scope e → is_truth (kind_of scope e) ≡ true → Gives e at → Gives f (at + term_length e + 1) → slice_get p.instrs (at + term_length e) ≡ Some j → Gives (two op e f) at
     joined_gives e f at j skips typed kind ge gf has stack d room safe v =
@@ -290,19 +290,19 @@ module _ (scope : Scope) (p : Program) (env : Env) (calls : List ℕ) (ready : I
   or_stays true e = refl
   or_stays false e = absurd (cc)
 
-  and_on : (pc to : ℕ) (b : Bool) (stack : List Decimal) → b ≡ true → Does p (i.AndSkip to) (at_state pc (truth b ∷ stack)) (at_state (pc + 1) stack)
+  and_on : (pc to : ℕ) (b : Bool) (stack : List Decimal) → b ≡ true → Performs p (i.AndSkip to) (at_state pc (truth b ∷ stack)) (at_state (pc + 1) stack)
   and_on pc to true stack e = (true, (refl, refl))
   and_on pc to false stack e = absurd (cc)
 
-  and_over : (pc to : ℕ) (b : Bool) (stack : List Decimal) → b ≡ false → Does p (i.AndSkip to) (at_state pc (truth b ∷ stack)) (at_state to (truth b ∷ stack))
+  and_over : (pc to : ℕ) (b : Bool) (stack : List Decimal) → b ≡ false → Performs p (i.AndSkip to) (at_state pc (truth b ∷ stack)) (at_state to (truth b ∷ stack))
   and_over pc to true stack e = absurd (cc)
   and_over pc to false stack e = (false, (refl, refl))
 
-  or_on : (pc to : ℕ) (b : Bool) (stack : List Decimal) → b ≡ false → Does p (i.OrSkip to) (at_state pc (truth b ∷ stack)) (at_state (pc + 1) stack)
+  or_on : (pc to : ℕ) (b : Bool) (stack : List Decimal) → b ≡ false → Performs p (i.OrSkip to) (at_state pc (truth b ∷ stack)) (at_state (pc + 1) stack)
   or_on pc to true stack e = absurd (cc)
   or_on pc to false stack e = (false, (refl, refl))
 
-  or_over : (pc to : ℕ) (b : Bool) (stack : List Decimal) → b ≡ true → Does p (i.OrSkip to) (at_state pc (truth b ∷ stack)) (at_state to (truth b ∷ stack))
+  or_over : (pc to : ℕ) (b : Bool) (stack : List Decimal) → b ≡ true → Performs p (i.OrSkip to) (at_state pc (truth b ∷ stack)) (at_state to (truth b ∷ stack))
   or_over pc to true stack e = (true, (refl, refl))
   or_over pc to false stack e = absurd (cc)
 

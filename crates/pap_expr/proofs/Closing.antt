@@ -9,7 +9,7 @@ use Rattle.pap_tree.specs.Term.{Term, unary, value_of, value_of_scaled, new_big,
 use Rattle.pap_tree.specs.Words.{level_of_operator}
 use Rattle.pap_tree.specs.Tokens.{Sign, Token, Word, Operator, Mark, Equals, Question, Colon, Dot, Comma, Semicolon, Close, OpenItem, CloseItem}
 use Rattle.pap_tree.specs.Grammar as grammar
-use Rattle.pap_tree.specs.Grammar.{Item, Part, Guard, free, no_number, no_point, Line, Level, Meaning, tree, assignment, at, sign}
+use Rattle.pap_tree.specs.Grammar.{Item, Part, Guard, free, no_number, no_point, Line, Level, LineMeaning, tree, assignment, at, sign}
 use Rattle.expr_grammar.specs.Machine.{Frame, InBrackets, InCall, InItem, InValue, InNew, Negating, Denying, Left, Chosen, Otherwise, Assigning, rounding, dividing, valuing, State, Want, Have, Named, Due, Member, ScaleDue, Done, binds, made, closes, close, ended, ended_in, behind_operand, tightness, step, finish, whole_of, whole_line}
 use Rattle.pap_expr.specs.declared.stretch.Stretch.{Stretch}
 use Rattle.pap_expr.specs.NodeBytes as nodes
@@ -32,7 +32,7 @@ pub last_end : (a : List PlacedToken) (t : PlacedToken) → t.on.end ≡ end_byt
 last_end a t = sym (end_append a t [])
 
 -- an operand ends what a frame waits for
-pub filled : (f : Frame) (k : List Frame) (x : Term) (n : Bool) (g : Guard) (l : Line) (items : List Item) (z : Meaning) (b : ℕ) (bs : List ℕ) (c : ℕ) (a : List PlacedToken) (m : List Stretch)
+pub filled : (f : Frame) (k : List Frame) (x : Term) (n : Bool) (g : Guard) (l : Line) (items : List Item) (z : LineMeaning) (b : ℕ) (bs : List ℕ) (c : ℕ) (a : List PlacedToken) (m : List Stretch)
     → ((own : List PlacedToken) (i : List Stretch) → IsFrame f own i → Lacks n (Part g l (tree x) ∷ items) z own i)
     → Behind (Behind (Held k bs) (IsFrame f) b) (IsRead x) c a m → Behind (Held k bs) (Lacks n items z) b a m
 filled f k x n g l items z b bs c a m lacks h =
@@ -83,7 +83,7 @@ closing n (f ∷ k) x r a h = by_close n f k x r a (closes n (binds f)) refl h (
 
 -- ---- the end of what a frame waits for
 
-no_nodes : (a : List PlacedToken) (x : Meaning) (i : List Stretch) → StandsOn a x ((i ++ []) ++ []) → StandsOn a x i
+no_nodes : (a : List PlacedToken) (x : LineMeaning) (i : List Stretch) → StandsOn a x ((i ++ []) ++ []) → StandsOn a x i
 no_nodes a x i h = subst (λ z. StandsOn a x z) (append-nil i) (subst (λ z. StandsOn a x z) (append-nil (i ++ [])) h)
 
 -- the tokens of an assignment up to those behind its expression
@@ -199,7 +199,7 @@ named_holds w k u st r a t d h q = have_holds (leaf (named w)) k u st (noted r.e
 
 -- ---- the end of the line
 
-whole_stands : (j : List Frame) (x : Term) (y : Meaning) (r : Track) (a : List PlacedToken) → Holds (Have x j) r a → whole_of x j ≡ Some y → StandsOn a y r.made
+whole_stands : (j : List Frame) (x : Term) (y : LineMeaning) (r : Track) (a : List PlacedToken) → Holds (Have x j) r a → whole_of x j ≡ Some y → StandsOn a y r.made
 whole_stands [] x y r a (h, l) e =
     let (eb, ea, em) = h.context in
     let own : List PlacedToken = h.first ∷ h.more in
@@ -213,10 +213,10 @@ whole_stands (Assigning w ∷ k) x y r a (h, l) e =
     subst (λ y. StandsOn a y r.made) f (subst (λ z. StandsOn z (assignment w x) r.made) (append-nil a) g)
 whole_stands (f ∷ k) x y r a h e = absurd cc
 
-have_last : (x : Term) (k : List Frame) (y : Meaning) (r : Track) (a : List PlacedToken) → Holds (Have x k) r a → whole_line (close 0 x k) ≡ Some y → StandsOn a y (close_track 0 k r).0.made
+have_last : (x : Term) (k : List Frame) (y : LineMeaning) (r : Track) (a : List PlacedToken) → Holds (Have x k) r a → whole_line (close 0 x k) ≡ Some y → StandsOn a y (close_track 0 k r).0.made
 have_last x k y r a h e = whole_stands (close 0 x k).1 (close 0 x k).0 y (close_track 0 k r).0 a (closing 0 k x r a h).1 e
 
-pub last_holds : (s : State) (y : Meaning) (r : Track) (a : List PlacedToken) → Holds s r a → finish s ≡ Some y → StandsOn a y (last_track s r).made
+pub last_holds : (s : State) (y : LineMeaning) (r : Track) (a : List PlacedToken) → Holds s r a → finish s ≡ Some y → StandsOn a y (last_track s r).made
 last_holds (Have x k) y r a h e = have_last x k y r a h e
 last_holds (Named w k) y r a h e = have_last (leaf (named w)) k y (noted r.end r) a (named_read w k r a h) e
 last_holds (Done x) y r a h e = let f : x ≡ y = cc in subst (λ y. StandsOn a y r.made) f h

@@ -9,12 +9,12 @@ use Rattle.pap_tree.specs.declared.name.Name.{Name}
 use Rattle.pap_expr.specs.declared.fault.ExprFault.{ExprFault}
 use Rattle.pap_tree.specs.Numbering.{nodes}
 use Rattle.pap_tree.specs.Grammar as grammar
-use Rattle.pap_tree.specs.Grammar.{Item, Is, Opens, Scale, Part, Line, Meaning, Way, tree, assignment}
+use Rattle.pap_tree.specs.Grammar.{Item, Is, Opens, Scale, Part, Line, LineMeaning, Way, tree, assignment}
 use Rattle.pap_expr.specs.declared.stretch.Stretch.{Stretch}
 use Rattle.pap_expr.specs.NodeBytes as bytes
 use Rattle.pap_expr.specs.NodeBytes.{PlacedToken, makes_node, own_node, StandsOn, ItemsStandOn, HaveBytes}
 
-abbrev pub count : Meaning → ℕ
+abbrev pub count : LineMeaning → ℕ
 count (tree x) = nodes x
 count (assignment w x) = nodes x
 count _ = 0
@@ -28,7 +28,7 @@ abbrev own_count : Bool → ℕ
 own_count true = 1
 own_count false = 0
 
-by_way : {l : Line} {way : List Item} {x : Meaning} (w : Way l way x) → count x ≡ counts way + own_count (makes_node w)
+by_way : {l : Line} {way : List Item} {x : LineMeaning} (w : Way l way x) → count x ≡ counts way + own_count (makes_node w)
 by_way (grammar.choose c a b) = omega arith
 by_way _ = omega arith
 
@@ -37,7 +37,7 @@ own_length true ts = refl
 own_length false ts = refl
 
 mutual
-  stands_count : {ts : List PlacedToken} {x : Meaning} {ps : List Stretch} → StandsOn ts x ps → length ps ≡ count x
+  stands_count : {ts : List PlacedToken} {x : LineMeaning} {ps : List Stretch} → StandsOn ts x ps → length ps ≡ count x
   stands_count (bytes.by {ts} {nodes = ps} way w h) =
       let a = by_way w in
       let b = parts_count h in
@@ -56,7 +56,7 @@ mutual
       let c = length-append inside ps in
       omega (arith, a, b, c)
 
-pub counted : (text : List ℕ) (x : Meaning) (ps : List Stretch) → HaveBytes text x ps → length ps ≡ count x
+pub counted : (text : List ℕ) (x : LineMeaning) (ps : List Stretch) → HaveBytes text x ps → length ps ≡ count x
 counted text x ps h = stands_count h.stands
 
 pub test_counted : (text : List ℕ) (r : Result (Expr × Vec Stretch Global) ExprFault) → IfOk r (λ r. HaveBytes text (tree (term_of r.0)) r.1.items) → IfOk r (λ r. length r.1.items ≡ nodes (term_of r.0))

@@ -18,9 +18,9 @@ use Rattle.pap_tree.specs.Words.{call_word}
 use Rattle.pap_tree.specs.Tokens as tokens
 use Rattle.pap_tree.specs.Tokens.{Number, Token, Literal, Quoted, Word, Operator, Mark, Dot, Comma, Open, Close, int}
 use Rattle.pap_tree.specs.Grammar as grammar
-use Rattle.pap_tree.specs.Grammar.{Item, Is, Part, free, no_point, Line, Level, Meaning, tree, mode, at, sign, word, opens, leaf_of, negative_of, form_of, Way}
+use Rattle.pap_tree.specs.Grammar.{Item, Is, Part, free, no_point, Line, Level, LineMeaning, tree, mode, at, sign, word, opens, leaf_of, negative_of, form_of, Way}
 use Rattle.expr_grammar.specs.Machine as machine
-use Rattle.expr_grammar.specs.Machine.{Frame, InBrackets, InCall, InValue, InNew, Negating, Denying, Rounded, dividing, setting, Job, valuing, declaring, Holder, the_decimal, the_mode, holder_word, holder_of, held_word, mode_of, Method, applied, opposite, magnitude, rescaled, method_word, method_of, Constancy, constant, of_number, constancy_word, constancy_of, Head, the_class, a_new, head_word, head_of, State, Want, Have, Named, Due, Member, Static, ScaleDue, Parting, Moding, Moded, level, called, scaled, class_held, moded, rounded, literal_step, want_step, same_token, step}
+use Rattle.expr_grammar.specs.Machine.{Frame, InBrackets, InCall, InValue, InNew, Negating, Denying, Rounded, dividing, setting, ScaleUse, valuing, declaring, Holder, the_decimal, the_mode, holder_word, holder_of, held_word, mode_of, Method, applied, opposite, magnitude, rescaled, method_word, method_of, Constancy, constant, of_number, constancy_word, constancy_of, Head, the_class, a_new, head_word, head_of, State, Want, Have, Named, Due, Member, Static, ScaleDue, Parting, Moding, Moded, level, called, scaled, class_held, moded, rounded, literal_step, want_step, same_token, step}
 use Rattle.expr_grammar.proofs.Laws.{picked, token_is}
 use Rattle.pap_expr.specs.declared.stretch.Stretch.{Stretch}
 use Rattle.pap_expr.specs.NodeBytes as nodes
@@ -246,7 +246,7 @@ static_holds k u st r a t d h q = absurd cc
 
 -- ---- scales and modes
 
-scaled_holds : (j : Job) (s : ℕ) (r : Track) (a : List PlacedToken) (t : PlacedToken) → t.token ≡ Literal (int s) → s ≤ most_places → Holds (ScaleDue j) r a
+scaled_holds : (j : ScaleUse) (s : ℕ) (r : Track) (a : List PlacedToken) (t : PlacedToken) → t.token ≡ Literal (int s) → s ≤ most_places → Holds (ScaleDue j) r a
     → Holds (scaled j s) (ended_at t.on.end r) (a ++ (t ∷ []))
 scaled_holds (valuing x k) s r a t d le h =
     close_due k (suc (level k)) r.begins r.first t.on.end r.made (a ++ (t ∷ [])) (one (value_of_scaled s) x)
@@ -254,7 +254,7 @@ scaled_holds (valuing x k) s r a t d le h =
 scaled_holds (machine.rounding q k) s r a t d le h = onward (Held k r.begins) _ _ r.first a r.made t (λ own i p m. pass_scale true (scaling_of q) s _ _ own i t d (p s m le)) h
 scaled_holds (declaring v o) s r a t d le h = absurd h
 
-scale_holds : (j : Job) (u : Token) (st : State) (r : Track) (a : List PlacedToken) (t : PlacedToken) → t.token ≡ u → Holds (ScaleDue j) r a → step (ScaleDue j) u ≡ Some st
+scale_holds : (j : ScaleUse) (u : Token) (st : State) (r : Track) (a : List PlacedToken) (t : PlacedToken) → t.token ≡ u → Holds (ScaleDue j) r a → step (ScaleDue j) u ≡ Some st
     → Holds st (ended_at t.on.end r) (a ++ (t ∷ []))
 scale_holds j (Literal (int s)) st r a t d h q =
     let (c, f) = if_some (nat_le s most_places) (scaled j s) st q in

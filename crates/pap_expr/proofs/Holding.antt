@@ -12,7 +12,7 @@ use Rattle.pap_tree.specs.declared.expression.Call.TheVariants as calls
 use Rattle.pap_tree.specs.Term.{Term, text, unary, value_of, value_of_scaled, new_big, operator, method, divide, leaf, item, one, two, choice}
 use Rattle.pap_tree.specs.Tokens.{Quoted, Word, Operator, Mark, Equals, Colon, Comma, Dot, Close, CloseItem}
 use Rattle.pap_tree.specs.Grammar as grammar
-use Rattle.pap_tree.specs.Grammar.{Item, Is, Scale, Part, free, no_number, no_point, of_value, of_quotient, of_setting, Level, Meaning, tree, at, sign, rounding}
+use Rattle.pap_tree.specs.Grammar.{Item, Is, Scale, Part, free, no_number, no_point, of_value, of_quotient, of_setting, Level, LineMeaning, tree, at, sign, rounding}
 use Rattle.expr_grammar.specs.Machine as machine
 use Rattle.expr_grammar.specs.Machine.{Frame, InBrackets, InCall, InItem, InValue, InNew, Negating, Denying, Left, Chosen, Otherwise, Assigning, Rounded, dividing, setting, valuing, holder_word, State, Want, Have, Named, Due, Member, Static, ScaleDue, Parting, Moding, Moded, Done, rounded}
 use Rattle.pap_expr.specs.declared.stretch.Stretch.{Stretch}

@@ -3,12 +3,12 @@ use Rattle.std.proofs.Common.{◌≡◌, ℕ, ◌≤◌, Ok, Err, Result, List, 
 use Rattle.pap_tree.specs.Term.{Term}
 use Rattle.pap_tree.specs.Numbering.{nodes}
 use Rattle.pap_tree.specs.Tokens.{Spot, plain, Tokens}
-use Rattle.pap_tree.specs.Grammar.{Item, Line, Level, Assignment, Constant, Meaning, tree, assignment, declared, Way}
+use Rattle.pap_tree.specs.Grammar.{Item, Line, Level, Assignment, Constant, LineMeaning, tree, assignment, declared, Way}
 use Rattle.pap_tree.specs.Declarations.{declared_of}
 use Rattle.pap_tree.specs.declared.declaration.Literal.{Literal}
 use Rattle.pap_tree.specs.Texts as texts
 use Rattle.pap_tree.specs.Expressions.{IsText, IsAccepted}
-use Rattle.expr_grammar.specs.Lines.{IsWhole, a_constant}
+use Rattle.expr_grammar.specs.Lines.{IsWholeLine, a_constant}
 use Rattle.expr_grammar.specs.Run.{answer}
 use Rattle.pap_tree.specs.Scales.{KeepsScales}
 use Rattle.expr_grammar.proofs.Laws.{answer_ok, answer_err, bounded, bytes_keep}
@@ -19,12 +19,12 @@ use Rattle.pap_expr.specs.private.Answers.{Fails}
 use Rattle.pap_expr.specs.private.Constants.{Gives}
 use Rattle.pap_expr.specs.Faults.{IsFaultOf}
 
-pub accepted : (l : Line) → IsWhole l → (bytes : List ℕ) (ts : List Spot) (x : Meaning) → Tokens 0 bytes ts → answer l (length bytes) ts ≡ Ok x → IsAccepted l bytes x
+pub accepted : (l : Line) → IsWholeLine l → (bytes : List ℕ) (ts : List Spot) (x : LineMeaning) → Tokens 0 bytes ts → answer l (length bytes) ts ≡ Ok x → IsAccepted l bytes x
 accepted l w bytes ts x t e =
     let h = answer_ok l w (length bytes) ts x e in
     record { spots = ts; tokens = t; text = h.0; read = h.1 }
 
-pub wrong : (l : Line) → IsWhole l → (bytes : List ℕ) (ts : List Spot) (e : ExprFault) → Tokens 0 bytes ts → Fails (answer l (length bytes) ts) e → IsFaultOf l bytes e
+pub wrong : (l : Line) → IsWholeLine l → (bytes : List ℕ) (ts : List Spot) (e : ExprFault) → Tokens 0 bytes ts → Fails (answer l (length bytes) ts) e → IsFaultOf l bytes e
 wrong l w bytes ts (faults.Syntax n) t h = record { spots = ts; tokens = t; refused = answer_err l w (length bytes) ts (refusal_of (faults.Syntax n)) h }
 wrong l w bytes ts (faults.Unsupported n) t h = record { spots = ts; tokens = t; refused = answer_err l w (length bytes) ts (refusal_of (faults.Unsupported n)) h }
 wrong l w bytes ts (faults.BinaryFraction n) t h = record { spots = ts; tokens = t; refused = answer_err l w (length bytes) ts (refusal_of (faults.BinaryFraction n)) h }
@@ -32,7 +32,7 @@ wrong l w bytes ts (faults.Number n) t h = record { spots = ts; tokens = t; refu
 wrong l w bytes ts (faults.Deep n) t h = record { spots = ts; tokens = t; refused = answer_err l w (length bytes) ts (refusal_of (faults.Deep n)) h }
 wrong l w bytes ts faults.Memory t h = tt
 
-pub text_of : (l : Line) (bytes : List ℕ) (x : Meaning) → IsAccepted l bytes x → IsText l bytes x
+pub text_of : (l : Line) (bytes : List ℕ) (x : LineMeaning) → IsAccepted l bytes x → IsText l bytes x
 text_of l bytes x h = record { spots = h.spots; tokens = h.tokens; text = h.text }
 
 -- at most 1,000 nodes, and scales of at most 30

@@ -4,7 +4,7 @@ use Rattle.std.proofs.lemmas.List.{append-nil}
 use Rattle.std.specs.Prelude.{IsTrue}
 use Rattle.pap_tree.specs.Names.{is_name}
 use Rattle.pap_tree.specs.Tokens.{Spot, Word, Mark, Equals, Tokens}
-use Rattle.pap_tree.specs.Grammar.{Meaning}
+use Rattle.pap_tree.specs.Grammar.{LineMeaning}
 use Rattle.pap_tree.specs.declared.name.Name.{Name}
 use Rattle.expr_tokens.specs.declared.token.Placed.{Placed}
 use Rattle.expr_tokens.specs.Spots.{token_of, spot_of, spots_of}
@@ -52,7 +52,7 @@ traced_more old tokens s st new newer x rest t q te ke n k e =
     let now : track_of newer ≡ next_track s (token_of x.token) (on old.text.now) (track_of new) = n (ke ∙ k) ∙ ap (λ text. next_track s (token_of x.token) (on text.now) (track_of new)) te in
     (a ++ (y ∷ []), f ∙ sym (append_assoc a (y ∷ []) (placed_tokens old.text.now rest)), subst (λ r. Holds st r (a ++ (y ∷ []))) (sym now) (step_holds s (token_of x.token) st (track_of new) a y refl h q))
 
-pub traced_end : (old : Trail) (tokens : List PlacedToken) (s : State) (new last : Trail) (x : Meaning) → Traced old tokens s new [] → finish s ≡ Some x → new.is_kept ≡ old.is_kept
+pub traced_end : (old : Trail) (tokens : List PlacedToken) (s : State) (new last : Trail) (x : LineMeaning) → Traced old tokens s new [] → finish s ≡ Some x → new.is_kept ≡ old.is_kept
     → (new.is_kept ≡ true → track_of last ≡ last_track s (track_of new)) → old.is_kept ≡ true → track_of old ≡ no_track → StandsOn tokens x last.made.items
 traced_end old tokens s new last x t q ke n k e =
     let (a, f, h) = t k e in

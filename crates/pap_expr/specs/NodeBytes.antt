@@ -3,7 +3,7 @@ use Rattle.std.specs.Prelude.{◌≡◌, ℕ, zero, suc, Bool, true, false, if�
 use Rattle.std.specs.Option.{option_map_or}
 use Rattle.pap_tree.specs.White.{is_white}
 use Rattle.pap_tree.specs.Tokens.{Token, Literal, int, Spot, Tokens}
-use Rattle.pap_tree.specs.Grammar.{Item, Is, Opens, Scale, Part, Scaling, Guard, Line, Meaning, Way, tighter, in_brackets, without_sign, with_sign, old_mode, new_mode, assign, assign_ended, big_constant, number_constant, table_constant, last_big, more_bigs, big_known, big_of_int, big_of_scaled, big_of_point, big_new, big_new_text}
+use Rattle.pap_tree.specs.Grammar.{Item, Is, Opens, Scale, Part, Scaling, Guard, Line, LineMeaning, Way, tighter, in_brackets, without_sign, with_sign, old_mode, new_mode, assign, assign_ended, big_constant, number_constant, table_constant, last_big, more_bigs, big_known, big_of_int, big_of_scaled, big_of_point, big_new, big_new_text}
 use Rattle.pap_expr.specs.declared.stretch.Stretch.{Stretch}
 
 -- the bytes from the first place up to the one before the second
@@ -52,7 +52,7 @@ bytes_of ts = stretch (first_byte ts) (end_byte ts)
 
 -- A text by this way is a node of its own. Brackets and a line that is also the next one pass on the node of what stands
 -- in them, and only an expression is a node.
-abbrev pub makes_node : {l : Line} {way : List Item} {x : Meaning} → Way l way x → Bool
+abbrev pub makes_node : {l : Line} {way : List Item} {x : LineMeaning} → Way l way x → Bool
 makes_node (tighter n x h) = false
 makes_node (in_brackets x) = false
 makes_node (without_sign f n e) = false
@@ -82,8 +82,8 @@ own_node false ts = []
 mutual
   -- The tokens stand for this, and its nodes stand on these bytes, in the order of their numbers: those of each part, and
   -- then the node itself. Which operator binds tighter isn't asked, since what they stand for says it.
-  pub data StandsOn : List PlacedToken → Meaning → List Stretch → Type 0 where
-    by : {l : Line} {ts : List PlacedToken} {x : Meaning} {nodes : List Stretch} (way : List Item) (w : Way l way x)
+  pub data StandsOn : List PlacedToken → LineMeaning → List Stretch → Type 0 where
+    by : {l : Line} {ts : List PlacedToken} {x : LineMeaning} {nodes : List Stretch} (way : List Item) (w : Way l way x)
         → ItemsStandOn way ts nodes → StandsOn ts x (nodes ++ own_node (makes_node w) ts)
 
   -- The tokens are those of these items, one after the other, and the nodes of the parts stand on these bytes.
@@ -95,11 +95,11 @@ mutual
         → t.token ≡ u → ItemsStandOn more ts nodes → ItemsStandOn (Opens u ∷ more) (t ∷ ts) nodes
     scale : {p : Scaling} {s : ℕ} {more : List Item} {ts : List PlacedToken} {nodes : List Stretch} (t : PlacedToken)
         → t.token ≡ Literal (int s) → ItemsStandOn more ts nodes → ItemsStandOn (Scale p s ∷ more) (t ∷ ts) nodes
-    part : {g : Guard} {l : Line} {x : Meaning} {more : List Item} {front ts : List PlacedToken} {inside nodes : List Stretch}
+    part : {g : Guard} {l : Line} {x : LineMeaning} {more : List Item} {front ts : List PlacedToken} {inside nodes : List Stretch}
         → StandsOn front x inside → ItemsStandOn more ts nodes → ItemsStandOn (Part g l x ∷ more) (front ++ ts) (inside ++ nodes)
 
 -- The text's tokens stand for this, and its nodes stand on these bytes, in the order of their numbers.
-pub record HaveBytes (bytes : List ℕ) (x : Meaning) (nodes : List Stretch) : Type 0 where
+pub record HaveBytes (bytes : List ℕ) (x : LineMeaning) (nodes : List Stretch) : Type 0 where
   pub spots : List Spot
   pub tokens : Tokens 0 bytes spots
   pub stands : StandsOn (placed_tokens bytes spots) x nodes

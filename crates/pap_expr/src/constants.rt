@@ -11,8 +11,8 @@ ghost use Rattle.pap_tree.specs.Expressions.{IsAccepted};
 ghost use Rattle.expr_tokens.specs.Spots.{token_of, spot_of, spots_of, sign_of};
 ghost use Rattle.expr_grammar.specs.Machine as machine;
 ghost use Rattle.expr_grammar.specs.Machine.{filled, other_step, settled};
-ghost use Rattle.expr_grammar.specs.Shortened.{shortened};
-ghost use Rattle.expr_grammar.specs.Run.{refusal, answer, point_cause};
+ghost use Rattle.expr_grammar.specs.Shortened.{shortened_places};
+ghost use Rattle.expr_grammar.specs.Run.{refusal_at, answer, point_cause};
 ghost use Rattle.pap_expr.specs.declared.fault.ExprFault.TheVariants.{Memory};
 ghost use Rattle.pap_expr.specs.declared.constant.Due.TheVariants.{NewClass};
 ghost use Rattle.pap_expr.specs.private.Views.{plain_cause};
@@ -123,7 +123,8 @@ fn filled_int(slot: Slot, i: i32) -> Due
 
 /// A literal of `long` in its place.
 fn filled_long(slot: Slot, i: i64, found: &Placed) -> Result<Due, ExprFault>
-    ensures { GivesNext (filled (slot_of slot) (long_leaf i)) (refusal syntax found.now.at) result }
+    ensures { GivesNext (filled (slot_of slot) (long_leaf i))
+        (refusal_at syntax found.now.at) result }
 {
     match slot {
         Slot::Line => Ok(Due::Done(Literal::Long(i))),
@@ -134,7 +135,7 @@ fn filled_long(slot: Slot, i: i64, found: &Placed) -> Result<Due, ExprFault>
 /// A literal with a point in its place.
 fn filled_point(slot: Slot, d: Dec, found: &Placed) -> Result<Due, ExprFault>
     ensures { GivesNext (filled (slot_of slot) (point_leaf d))
-        (refusal (point_cause (machine.Signed (slot_of slot))) found.now.at) result }
+        (refusal_at (point_cause (machine.Signed (slot_of slot))) found.now.at) result }
 {
     match slot {
         Slot::Line => Ok(Due::Done(Literal::Point(d))),
@@ -146,7 +147,7 @@ fn filled_point(slot: Slot, d: Dec, found: &Placed) -> Result<Due, ExprFault>
 /// What may stand in the place of a literal.
 fn other(alloc: Global, slot: Slot, found: &Placed) -> Result<Due, ExprFault>
     ensures { GivesNext (other_step (slot_of slot) (token_of found.now.token))
-        (refusal (plain_cause (token_of found.now.token)) found.now.at) result }
+        (refusal_at (plain_cause (token_of found.now.token)) found.now.at) result }
 {
     match slot {
         Slot::Line if is_sign(Sign::OpenTable, found) => Ok(Due::Item(Vec::new(alloc))),
@@ -162,7 +163,7 @@ fn other(alloc: Global, slot: Slot, found: &Placed) -> Result<Due, ExprFault>
 /// The word that begins a decimal.
 fn big(room: Room, found: &Placed) -> Result<Due, ExprFault>
     ensures { GivesNext (big_of (room_of room) (token_of found.now.token))
-        (refusal (plain_cause (token_of found.now.token)) found.now.at) result }
+        (refusal_at (plain_cause (token_of found.now.token)) found.now.at) result }
 {
     match keyword(found) {
         Some(Keyword::BigDecimal) => Ok(Due::ClassPoint(room)),
@@ -280,7 +281,7 @@ fn int(i: i32) -> Dec
 /// A decimal without the zeros that end it, down to one place: what `valueOf` makes of a literal with a point. None
 /// where it has no places.
 fn shortened(d: Dec) -> Option<Dec>
-    ensures { MatchOption result (shortened d ≡ None) (λ e. shortened d ≡ Some e) }
+    ensures { MatchOption result (shortened_places d ≡ None) (λ e. shortened_places d ≡ Some e) }
 {
     if d.scale() == 0 {
         return None;

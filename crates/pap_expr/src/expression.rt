@@ -6,10 +6,10 @@ ghost use Rattle.pap_tree.specs.Term.{term_of};
 ghost use Rattle.pap_tree.specs.Tokens.{Mark, Equals, Word};
 ghost use Rattle.pap_tree.specs.Numbering.{nodes};
 ghost use Rattle.pap_tree.specs.Grammar as grammar;
-ghost use Rattle.pap_tree.specs.Grammar.{Level, Meaning, tree, assignment};
+ghost use Rattle.pap_tree.specs.Grammar.{Level, LineMeaning, tree, assignment};
 ghost use Rattle.pap_tree.specs.Expressions.{IsAccepted};
 ghost use Rattle.expr_tokens.specs.Spots.{token_of, spots_of};
-ghost use Rattle.expr_grammar.specs.Machine.{Due, Want, Naming, naming_step, start};
+ghost use Rattle.expr_grammar.specs.Machine.{Due, Want, Naming, naming_step, first_state};
 ghost use Rattle.expr_grammar.specs.Run.{Refusal, run, answer, never};
 ghost use Rattle.pap_tree.specs.Scales.{KeepsScales};
 ghost use Rattle.pap_tree.specs.Limits.{most_tokens};
@@ -156,7 +156,7 @@ fn answer(
 
 /// The fault in place of what was read.
 fn never(read: Result<Reading, ExprFault>, fault: ExprFault) -> Result<Reading, ExprFault>
-    ensures answer { (r : Result Meaning Refusal) → Answers r read
+    ensures answer { (r : Result LineMeaning Refusal) → Answers r read
         → Answers (never (refusal_of fault) r) result }
     ensures fails { IfOk result (λ _. ⊥) }
 {
@@ -174,7 +174,7 @@ fn line(
     end: ExprFault,
     trail: &mut Trail<'_>,
 ) -> Result<Reading, ExprFault>
-    ensures answer { Answers (run (line_of kind) (refusal_of end) (start (line_of kind))
+    ensures answer { Answers (run (line_of kind) (refusal_of end) (first_state (line_of kind))
         (spots_of front.now)) result }
     ensures places { Traces trail.old
         (placed_tokens trail.old.text.now (spots_of front.now)) trail.new result }

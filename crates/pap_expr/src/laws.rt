@@ -4,27 +4,29 @@
 ghost use Rattle.std.specs.Prelude.{◌≡◌, ℕ, ◌⊎◌, List};
 ghost use Rattle.pap_tree.specs.Term.{Term};
 ghost use Rattle.pap_tree.specs.Spelling.{spelling};
-ghost use Rattle.pap_tree.specs.Grammar.{Line, Level, Meaning, tree};
+ghost use Rattle.pap_tree.specs.Grammar.{Line, Level, LineMeaning, tree};
 ghost use Rattle.pap_tree.specs.Stopping.{Cause, deep};
 ghost use Rattle.pap_tree.specs.Expressions.{IsText, IsTest, IsAccepted, IsWrong};
-ghost use Rattle.expr_grammar.specs.Lines.{IsWhole};
+ghost use Rattle.expr_grammar.specs.Lines.{IsWholeLine};
 ghost use Rattle.expr_grammar.specs.ReadingBack.{IsInText};
 
 use expr_grammar::{reads_fronts, spelling_is_a_text};
 
 /// A text of a test, of an assignment or of a declared literal stands for one thing at most.
 pub fn each_text_has_one_tree()
-    ensures { (l : Line) → IsWhole l → (bytes : List ℕ) (x y : Meaning)
+    ensures { (l : Line) → IsWholeLine l → (bytes : List ℕ) (x y : LineMeaning)
         → IsText l bytes x → IsText l bytes y → x ≡ y }
 {}
 
 /// Each text is accepted or wrong, never both, and wrong for one cause at one byte.
 pub fn each_text_has_one_answer()
-    ensures always { (l : Line) → IsWhole l → (bytes : List ℕ)
-        → ((x : Meaning) × IsAccepted l bytes x) ⊎ ((c : Cause) × (at : ℕ) × IsWrong l bytes c at) }
-    ensures not_both { (l : Line) → IsWhole l → (bytes : List ℕ) (x : Meaning) (c : Cause) (at : ℕ)
+    ensures always { (l : Line) → IsWholeLine l → (bytes : List ℕ)
+        → ((x : LineMeaning) × IsAccepted l bytes x)
+        ⊎ ((c : Cause) × (at : ℕ) × IsWrong l bytes c at) }
+    ensures not_both { (l : Line) → IsWholeLine l
+        → (bytes : List ℕ) (x : LineMeaning) (c : Cause) (at : ℕ)
         → IsAccepted l bytes x → IsWrong l bytes c at → ⊥ }
-    ensures one_fault { (l : Line) → IsWhole l → (bytes : List ℕ) (c d : Cause) (m n : ℕ)
+    ensures one_fault { (l : Line) → IsWholeLine l → (bytes : List ℕ) (c d : Cause) (m n : ℕ)
         → IsWrong l bytes c m → IsWrong l bytes d n → (c ≡ d) × (m ≡ n) }
 {}
 

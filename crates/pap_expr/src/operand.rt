@@ -11,7 +11,7 @@ ghost use Rattle.pap_tree.specs.Stopping.{binary_fraction, syntax};
 ghost use Rattle.expr_tokens.specs.Spots.{spot_of, sign_of, keyword_text};
 ghost use Rattle.expr_grammar.specs.Machine.{Frame as Waiting, InNew, Want, Have};
 ghost use Rattle.expr_grammar.specs.Machine.{level, taken, literal_step, want_step};
-ghost use Rattle.expr_grammar.specs.Run.{refusal, point_cause};
+ghost use Rattle.expr_grammar.specs.Run.{refusal_at, point_cause};
 ghost use Rattle.pap_expr.specs.declared.state.State.TheVariants.{AfterName};
 ghost use Rattle.pap_expr.specs.private.Stacks.{stack_of};
 ghost use Rattle.pap_expr.specs.private.States.{state_of};
@@ -94,7 +94,7 @@ impl Reader {
     /// A literal with a point.
     fn point(&mut self, d: Dec, found: &Placed) -> Result<State, ExprFault>
         ensures { Leads (literal_step (stack_of self.old.stack) (pure.point d))
-            (refusal (point_cause (Want (stack_of self.old.stack))) found.now.at)
+            (refusal_at (point_cause (Want (stack_of self.old.stack))) found.now.at)
             (stack_of self.new.stack) result }
     {
         let d = if self.takes_minus() { d.neg() } else { d };
@@ -107,7 +107,7 @@ impl Reader {
     /// A number in quotation marks.
     fn quoted(&mut self, d: Dec, found: &Placed) -> Result<State, ExprFault>
         ensures { Leads (want_step (stack_of self.old.stack) (Quoted d))
-            (refusal syntax found.now.at)
+            (refusal_at syntax found.now.at)
             (stack_of self.new.stack) result }
     {
         match self.stack.pop() {
@@ -120,7 +120,7 @@ impl Reader {
     fn prefix(&mut self, operator: Binary, found: &Placed) -> Result<State, ExprFault>
         requires room { level (stack_of self.old.stack) ≤ most_levels }
         ensures { Leads (want_step (stack_of self.old.stack) (Operator operator))
-            (refusal syntax found.now.at)
+            (refusal_at syntax found.now.at)
             (stack_of self.new.stack) result }
     {
         match operator {
@@ -133,7 +133,7 @@ impl Reader {
     fn prefix_sign(&mut self, sign: Sign, found: &Placed) -> Result<State, ExprFault>
         requires room { level (stack_of self.old.stack) ≤ most_levels }
         ensures { Leads (want_step (stack_of self.old.stack) (Mark (sign_of sign)))
-            (refusal syntax found.now.at)
+            (refusal_at syntax found.now.at)
             (stack_of self.new.stack) result }
     {
         match sign {
@@ -147,7 +147,8 @@ impl Reader {
 /// A word that begins a decimal.
 fn class(keyword: Keyword, found: &Placed) -> Result<State, ExprFault>
     ensures { (k : List Waiting) →
-        Leads (want_step k (Word (keyword_text keyword))) (refusal syntax found.now.at) k result }
+        Leads (want_step k (Word (keyword_text keyword)))
+        (refusal_at syntax found.now.at) k result }
 {
     match keyword {
         Keyword::BigDecimal => Ok(State::ClassPoint),

@@ -7,7 +7,7 @@ ghost use Rattle.pap_tree.specs.Limits.{most_levels};
 ghost use Rattle.expr_tokens.specs.Spots.{token_of, spot_of, sign_of};
 ghost use Rattle.expr_grammar.specs.Machine as machine;
 ghost use Rattle.expr_grammar.specs.Machine.{Frame as Waiting, Want, Have, level};
-ghost use Rattle.expr_grammar.specs.Run.{refusal};
+ghost use Rattle.expr_grammar.specs.Run.{refusal_at};
 ghost use Rattle.pap_expr.specs.declared.fault.ExprFault.TheVariants.{Memory};
 ghost use Rattle.pap_expr.specs.private.Frames.{frame_of};
 ghost use Rattle.pap_expr.specs.private.Stacks.{stack_of};
@@ -119,8 +119,9 @@ impl Reader {
     /// A sign after an expression.
     fn marked(&mut self, sign: Sign, value: Expr, found: &Placed) -> Result<State, ExprFault>
         requires room { level (stack_of self.old.stack) ≤ most_levels }
-        ensures { Leads (machine.marked (sign_of sign) (term_of value) (stack_of self.old.stack))
-            (refusal (plain_cause (token_of found.now.token)) found.now.at)
+        ensures { Leads
+            (machine.after_mark (sign_of sign) (term_of value) (stack_of self.old.stack))
+            (refusal_at (plain_cause (token_of found.now.token)) found.now.at)
             (stack_of self.new.stack) result }
     {
         match sign {
@@ -147,7 +148,7 @@ impl Reader {
         requires room { level (stack_of self.old.stack) ≤ most_levels }
         ensures { Leads (machine.ended (frame_of frame) (sign_of sign) (term_of value)
             (stack_of self.old.stack))
-            (refusal (plain_cause (token_of found.now.token)) found.now.at)
+            (refusal_at (plain_cause (token_of found.now.token)) found.now.at)
             (stack_of self.new.stack) result }
     {
         match (frame, sign) {
@@ -175,7 +176,7 @@ impl Reader {
     fn closed(&self, frame: Frame, value: Expr, found: &Placed) -> Result<State, ExprFault>
         ensures { (k : List Waiting)
             → Leads (machine.ended (frame_of frame) pure.Close (term_of value) k)
-            (refusal (plain_cause (token_of found.now.token)) found.now.at) k result }
+            (refusal_at (plain_cause (token_of found.now.token)) found.now.at) k result }
     {
         Ok(State::After(match frame {
             Frame::Brackets => value,

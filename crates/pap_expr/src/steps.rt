@@ -8,7 +8,7 @@ ghost use Rattle.pap_tree.specs.Stopping.{unsupported};
 ghost use Rattle.expr_tokens.specs.Spots.{token_of, spot_of, sign_of, keyword_text};
 ghost use Rattle.expr_grammar.specs.Machine as machine;
 ghost use Rattle.expr_grammar.specs.Machine.{Frame as Waiting};
-ghost use Rattle.expr_grammar.specs.Run.{refusal, cause_of};
+ghost use Rattle.expr_grammar.specs.Run.{refusal_at, cause_of};
 ghost use Rattle.pap_expr.specs.declared.state.State.TheVariants as states;
 ghost use Rattle.pap_expr.specs.private.Views.{plain_cause, refusal_of, holder_view, IsNoKeyword};
 ghost use Rattle.pap_expr.specs.private.States.{state_of, rounded_of, job_of};
@@ -24,7 +24,7 @@ use scaled_decimal::MOST_PLACES;
 
 /// The fault of a token that isn't allowed where it stands.
 pub(crate) fn refused(found: &Placed) -> ExprFault
-    ensures { refusal_of result ≡ refusal (plain_cause (token_of found.now.token)) found.now.at }
+    ensures { refusal_of result ≡ refusal_at (plain_cause (token_of found.now.token)) found.now.at }
 {
     match found.token {
         Token::Beyond => ExprFault::Number { at: found.at },
@@ -35,7 +35,7 @@ pub(crate) fn refused(found: &Placed) -> ExprFault
 /// The fault of a name that Java has behind a point and the profile doesn't. The word is given so that the proof learns
 /// that it is a name.
 pub(crate) fn foreign(word: Name, found: &Placed) -> ExprFault
-    ensures unsupported { refusal_of result ≡ refusal unsupported found.now.at }
+    ensures unsupported { refusal_of result ≡ refusal_at unsupported found.now.at }
     ensures named { IsTrue (is_name word) }
 {
     ExprFault::Unsupported { at: found.at }
@@ -159,7 +159,7 @@ pub(crate) fn scale(scaled: Scaled, found: &Placed) -> Result<State, ExprFault>
 
 /// The fault of a word in the place of a scale, which may not be left out before the mode.
 fn refused_class(scaled: Scaled, keyword: Keyword, found: &Placed) -> ExprFault
-    ensures { (k : List Waiting) → refusal_of result ≡ refusal
+    ensures { (k : List Waiting) → refusal_of result ≡ refusal_at
         (cause_of (machine.ScaleDue (job_of scaled k)) (pure.Word (keyword_text keyword)))
         found.now.at }
 {

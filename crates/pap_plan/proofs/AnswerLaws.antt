@@ -27,7 +27,7 @@ use Rattle.plan_text.proofs.Laws as plans
 use Rattle.pap_plan.specs.declared.refusal.PlanRefusal.{PlanRefusal}
 use Rattle.pap_plan.specs.declared.refusal.PlanRefusal.TheVariants as refusals
 use Rattle.pap_plan.specs.Bindings.{unmatched_name, HasSuitedLimit, IsFirstUnsuited, unbound_input}
-use Rattle.pap_plan.specs.Acceptance.{Meaning, IsTypedPlan, IsOrderedPlan, HasRangeFile, HasMatchingNames, HasSuitedLimits, HasBindings, IsLimitsFault, Answers}
+use Rattle.pap_plan.specs.Acceptance.{Meaning, IsTypedPlan, IsOrderedPlan, HasRangeFile, HasMatchingNames, HasSuitedLimits, HasBindings, IsLimitsFault, AcceptanceSays}
 use Rattle.pap_plan.specs.StageRefusals.{text_refusal}
 use Rattle.pap_plan.proofs.SuitedLemmas.{suited_or_first, never_suited, one_unsuited}
 
@@ -81,7 +81,7 @@ ByText plan limits a =
 
 -- ---- each answer goes through the stages
 
-to_stages : (plan limits : List ℕ) (a : Out) → Answers plan limits a → ByText plan limits a
+to_stages : (plan limits : List ℕ) (a : Out) → AcceptanceSays plan limits a → ByText plan limits a
 to_stages plan limits (Ok m) h =
     let s = h.bound.suited in
     let n = s.named in
@@ -262,13 +262,13 @@ one_by_text plan limits a b (inl (f, h, x)) (inr (n, k, d)) = absurd (plans.neve
 one_by_text plan limits a b (inr (m, h, e)) (inl (g, k, y)) = absurd (plans.never_both plan g m k h)
 one_by_text plan limits a b (inr (m, h, e)) (inr (n, k, d)) = e ∙ ap (λ x. Err (text_refusal x)) (plans.one_fault plan m n h k) ∙ sym d
 
-pub one : (plan limits : List ℕ) (a b : Out) → Answers plan limits a → Answers plan limits b → a ≡ b
+pub one : (plan limits : List ℕ) (a b : Out) → AcceptanceSays plan limits a → AcceptanceSays plan limits b → a ≡ b
 one plan limits a b h k = one_by_text plan limits a b (to_stages plan limits a h) (to_stages plan limits b k)
 
 -- ---- and one does
 
 abbrev HasAnswer : List ℕ → List ℕ → Type 0
-HasAnswer plan limits = (a : Out) × Answers plan limits a
+HasAnswer plan limits = (a : Out) × AcceptanceSays plan limits a
 
 by_walk : (plan limits : List ℕ) (f : Flowchart) (l : Limits) → HasBindings plan limits f l → (r : Result Ranges WalkFault) → analysed f l ≡ r → HasAnswer plan limits
 by_walk plan limits f l h (Ok rs) e = (Ok (meaning_of f l rs), record { bound = h; walked = e })

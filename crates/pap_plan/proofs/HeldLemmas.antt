@@ -11,18 +11,18 @@ use Rattle.pap_tree.specs.declared.expression.Known.TheVariants as knowns
 use Rattle.pap_tree.specs.Tokens as tokens
 use Rattle.pap_tree.specs.Tokens.{Number, Token, Literal, Quoted, IsFirst}
 use Rattle.pap_tree.specs.Grammar as grammar
-use Rattle.pap_tree.specs.Grammar.{Item, Line, Level, Assignment, Constant, Meaning, tree, literal, mode, assignment, declared, decimals, Way, leaf_of, negative_of, known_value}
+use Rattle.pap_tree.specs.Grammar.{Item, Line, Level, Assignment, Constant, LineMeaning, tree, literal, mode, assignment, declared, decimals, Way, leaf_of, negative_of, known_value}
 use Rattle.pap_tree.specs.Expressions.{IsAccepted}
 use Rattle.pap_tree.specs.Declarations.{Declaration, DeclaredLiteral}
 use Rattle.pap_tree.specs.Flowchart.{Body, done, eval, branch, execute, Routine, Flowchart}
 use Rattle.pap_reader.specs.Trees.{RawDeclaration, RawBody, RawRoutine}
 use Rattle.pap_reader.specs.Trees as raw
-use Rattle.plan_text.specs.Plans.{IsValue, AreDeclarations, IsBody, AreRoutines, IsPlan}
+use Rattle.plan_text.specs.Plans.{IsLiteralText, AreDeclarations, IsBody, AreRoutines, IsPlan}
 use Rattle.pap_plan.proofs.TextLemmas.{AllItems, accepted_meant}
 use Rattle.interval_walk.specs.Reading.{HasFewPlaces, HoldsLeaf, HoldsLiteral, HoldsTerm, HoldsBody, HoldsPlan}
 
 -- what a text stands for has such literals
-abbrev IsHeld : Meaning → Type 0
+abbrev IsHeld : LineMeaning → Type 0
 IsHeld (tree t) = HoldsTerm t
 IsHeld (literal l) = HoldsLeaf l
 IsHeld (mode m) = ⊤
@@ -65,7 +65,7 @@ shortened_held d e least h k = omega (arith, h.high, k)
 
 -- ---- texts
 
-way_held : (l : Line) (way : List Item) (x : Meaning) → Way l way x → AllItems IsHeld IsHeldToken way → IsHeld x
+way_held : (l : Line) (way : List Item) (x : LineMeaning) → Way l way x → AllItems IsHeld IsHeldToken way → IsHeld x
 way_held line way meant (grammar.choose c a b) h = (h.0, h.1.0, h.1.1.1.0)
 way_held line way meant (grammar.tighter n x lt) h = h.0
 way_held line way meant (grammar.operation n o x y e) h = (h.0, h.1.1.0)
@@ -110,12 +110,12 @@ first_held text rest (Quoted d) h = h.0.1.scale
 first_held text rest t h = tt
 
 -- what a text of any line stands for
-text_held : (l : Line) (bytes : List ℕ) (x : Meaning) → IsAccepted l bytes x → IsHeld x
+text_held : (l : Line) (bytes : List ℕ) (x : LineMeaning) → IsAccepted l bytes x → IsHeld x
 text_held = accepted_meant IsHeld IsHeldToken way_held first_held
 
 -- ---- declarations
 
-value_held : (raw : Option (List ℕ)) (l : Option DeclaredLiteral) → IsValue raw l → IfSome l HoldsLiteral
+value_held : (raw : Option (List ℕ)) (l : Option DeclaredLiteral) → IsLiteralText raw l → IfSome l HoldsLiteral
 value_held None None h = tt
 value_held None (Some l) h = absurd h
 value_held (Some text) None h = absurd h

@@ -12,7 +12,7 @@ use Rattle.limits_file.specs.Labels.{label_of}
 use Rattle.limits_file.specs.Limits.{HasSoundBounds, limit_named}
 use Rattle.limits_file.specs.Inputs.{InputSays}
 use Rattle.limits_file.specs.Bindings.{BindingSays}
-use Rattle.limits_file.specs.Walks.{AllOrFirstFault, TableSays}
+use Rattle.limits_file.specs.Walks.{AllOrFirstFault, KeysSay}
 use Rattle.limits_file.specs.RangeFiles.{with_inputs, with_bindings, SectionSays, FileSays}
 
 inputs_sound : (n : ℕ) (entries : Members) (said : List InputLimit) → AllOrFirstFault InputSays n entries (Ok said) → All HasSoundBounds said
@@ -29,12 +29,12 @@ no_answer part f h = cc
 section_sound : (n : ℕ) (key : List ℕ) (value : Data) (part : Limits) → SectionSays n key value (Ok part) → IsSound part
 section_sound n key (table entries) part h = by_bind (bytes_eq key (codes "bind")) h
   where
-    by_input : (b : Bool) → MatchBool b (TableSays InputSays with_inputs entries (Ok part)) (Ok part ≡ Err (bad_key (label_of key))) → IsSound part
+    by_input : (b : Bool) → MatchBool b (KeysSay InputSays with_inputs entries (Ok part)) (Ok part ≡ Err (bad_key (label_of key))) → IsSound part
     by_input true k = subst IsSound (sym k.2) (inputs_sound 0 entries k.0 k.1)
     by_input false k = absurd (no_answer part (bad_key (label_of key)) k)
 
-    by_bind : (b : Bool) → MatchBool b (TableSays BindingSays with_bindings entries (Ok part))
-        (MatchBool (bytes_eq key (codes "input")) (TableSays InputSays with_inputs entries (Ok part)) (Ok part ≡ Err (bad_key (label_of key)))) → IsSound part
+    by_bind : (b : Bool) → MatchBool b (KeysSay BindingSays with_bindings entries (Ok part))
+        (MatchBool (bytes_eq key (codes "input")) (KeysSay InputSays with_inputs entries (Ok part)) (Ok part ≡ Err (bad_key (label_of key)))) → IsSound part
     by_bind true k = subst IsSound (sym k.2) (All-nil HasSoundBounds)
     by_bind false k = by_input (bytes_eq key (codes "input")) k
 section_sound n key (string x) part h = absurd (no_answer part (bad_key (label_of key)) h)

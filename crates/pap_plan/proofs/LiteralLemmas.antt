@@ -14,15 +14,15 @@ use Rattle.pap_tree.specs.declared.expression.Known.TheVariants as knowns
 use Rattle.pap_tree.specs.Tokens as tokens
 use Rattle.pap_tree.specs.Tokens.{Number, Token, Literal, Quoted, IsFirst}
 use Rattle.pap_tree.specs.Grammar as grammar
-use Rattle.pap_tree.specs.Grammar.{Item, Line, Constant, Meaning, literal, declared, Way, leaf_of, negative_of, known_value}
+use Rattle.pap_tree.specs.Grammar.{Item, Line, Constant, LineMeaning, literal, declared, Way, leaf_of, negative_of, known_value}
 use Rattle.pap_tree.specs.Expressions.{IsAccepted}
 use Rattle.pap_tree.specs.Declarations.{Declaration, DeclaredLiteral}
 use Rattle.pap_types.specs.Scopes.{leaf_decimal, literal_decimal}
 use Rattle.pap_reader.specs.Trees.{RawDeclaration}
-use Rattle.plan_text.specs.Plans.{IsValue, AreDeclarations}
+use Rattle.plan_text.specs.Plans.{IsLiteralText, AreDeclarations}
 use Rattle.pap_plan.proofs.TextLemmas.{AllItems, accepted_meant}
 
-abbrev IsKeptMeaning : Meaning → Type 0
+abbrev IsKeptMeaning : LineMeaning → Type 0
 IsKeptMeaning (literal l) = IsKept (leaf_decimal l)
 IsKeptMeaning (declared l) = IsKept (literal_decimal l)
 IsKeptMeaning x = ⊤
@@ -69,7 +69,7 @@ shortened_kept d e least h k =
 
 -- ---- texts
 
-way_kept : (l : Line) (way : List Item) (x : Meaning) → Way l way x → AllItems IsKeptMeaning IsKeptToken way → IsKeptMeaning x
+way_kept : (l : Line) (way : List Item) (x : LineMeaning) → Way l way x → AllItems IsKeptMeaning IsKeptToken way → IsKeptMeaning x
 way_kept line way meant (grammar.without_sign f n e) h = h.0
 way_kept line way meant (grammar.with_sign f n e) h = negative_kept n h.0
 way_kept line way meant (grammar.big_constant d) h = h.0
@@ -99,7 +99,7 @@ literal_kept bytes l h = accepted_meant IsKeptMeaning IsKeptToken way_kept first
 abbrev pub HasKeptValue : Declaration → Type 0
 HasKeptValue d = (v : Decimal) → option_map literal_decimal d.value ≡ Some v → IsKept v
 
-value_kept : (raw : Option (List ℕ)) (l : Option DeclaredLiteral) → IsValue raw l → (v : Decimal) → option_map literal_decimal l ≡ Some v → IsKept v
+value_kept : (raw : Option (List ℕ)) (l : Option DeclaredLiteral) → IsLiteralText raw l → (v : Decimal) → option_map literal_decimal l ≡ Some v → IsKept v
 value_kept None None h v e = absurd (cc e)
 value_kept None (Some l) h v e = absurd h
 value_kept (Some text) None h v e = absurd h

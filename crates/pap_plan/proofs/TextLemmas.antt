@@ -2,12 +2,12 @@
 use Rattle.std.proofs.Common.{ℕ, ◌+◌, List, [], ◌∷◌, ◌++◌, length}
 use Rattle.std.specs.Prelude.{⊤}
 use Rattle.pap_tree.specs.Tokens.{Token, Spot, plain, Tokens, IsFirst}
-use Rattle.pap_tree.specs.Grammar.{Item, Is, Opens, Scale, Part, Line, Meaning, Way}
+use Rattle.pap_tree.specs.Grammar.{Item, Is, Opens, Scale, Part, Line, LineMeaning, Way}
 use Rattle.pap_tree.specs.Texts as texts
-use Rattle.pap_tree.specs.Texts.{Text, Texts}
+use Rattle.pap_tree.specs.Texts.{Derives, Texts}
 use Rattle.pap_tree.specs.Expressions.{IsAccepted}
 
-module _ (Meant : Meaning → Type 0) (Given : Token → Type 0) where
+module _ (Meant : LineMeaning → Type 0) (Given : Token → Type 0) where
   abbrev AllTokens : List Token → Type 0
   AllTokens [] = ⊤
   AllTokens (t ∷ ts) = Given t × AllTokens ts
@@ -27,9 +27,9 @@ module _ (Meant : Meaning → Type 0) (Given : Token → Type 0) where
   last_tokens [] b h = h
   last_tokens (t ∷ a) b h = last_tokens a b h.1
 
-  module _ (by_way : (l : Line) (way : List Item) (x : Meaning) → Way l way x → AllItems way → Meant x) (by_text : (text rest : List ℕ) (t : Token) → IsFirst text rest t → Given t) where
+  module _ (by_way : (l : Line) (way : List Item) (x : LineMeaning) → Way l way x → AllItems way → Meant x) (by_text : (text rest : List ℕ) (t : Token) → IsFirst text rest t → Given t) where
     mutual
-      text_meant : {l : Line} {ts : List Token} {x : Meaning} → Text l ts x → AllTokens ts → Meant x
+      text_meant : {l : Line} {ts : List Token} {x : LineMeaning} → Derives l ts x → AllTokens ts → Meant x
       text_meant (texts.by way w h) p = by_way _ way _ w (all_meant h p)
 
       all_meant : {way : List Item} {ts : List Token} → Texts way ts → AllTokens ts → AllItems way
@@ -44,5 +44,5 @@ module _ (Meant : Meaning → Type 0) (Given : Token → Type 0) where
     tokens_given at bytes (t ∷ ts) (white, text, rest, a, b, first, c, more) =
         (by_text text rest t.token first, tokens_given (at + length white + length text) rest ts more)
 
-    pub accepted_meant : (l : Line) (bytes : List ℕ) (x : Meaning) → IsAccepted l bytes x → Meant x
+    pub accepted_meant : (l : Line) (bytes : List ℕ) (x : LineMeaning) → IsAccepted l bytes x → Meant x
     accepted_meant l bytes x h = text_meant h.text (tokens_given 0 bytes h.spots h.tokens)

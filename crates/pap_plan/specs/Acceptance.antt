@@ -90,9 +90,9 @@ IsRefused plan limits (refusals.Range fault) =
 IsRefused plan limits refusals.Memory = ⊥
 
 -- the answer on two texts: what they mean, or why they are refused
-abbrev pub Answers : List ℕ → List ℕ → Result Meaning PlanRefusal → Type 0
-Answers plan limits (Ok m) = IsAccepted plan limits m
-Answers plan limits (Err r) = IsRefused plan limits r
+abbrev pub AcceptanceSays : List ℕ → List ℕ → Result Meaning PlanRefusal → Type 0
+AcceptanceSays plan limits (Ok m) = IsAccepted plan limits m
+AcceptanceSays plan limits (Err r) = IsRefused plan limits r
 
 -- why a call refuses two texts: they are refused so, or memory ran out, which may be at any texts
 abbrev pub IsRefusedOrMemory : List ℕ → List ℕ → PlanRefusal → Type 0

@@ -14,8 +14,8 @@ pub record IsAcceptedAs (plan limits : List ℕ) (p : Seen) : Type 0 where
   pub accepted : IsAccepted plan limits (meaning p)
 
 -- the text isn't a plan's, or memory ran out, which may be at any text
-abbrev pub IsUnread : List ℕ → PlanRefusal → Type 0
-IsUnread plan (refusals.Read fault) = IsPlanFault plan (texts.Read fault)
-IsUnread plan (refusals.Expr spot fault) = IsPlanFault plan (texts.Expr spot fault)
-IsUnread plan refusals.Memory = ⊤
-IsUnread plan _ = ⊥
+abbrev pub IsUnreadPlan : List ℕ → PlanRefusal → Type 0
+IsUnreadPlan plan (refusals.Read fault) = IsPlanFault plan (texts.Read fault)
+IsUnreadPlan plan (refusals.Expr spot fault) = IsPlanFault plan (texts.Expr spot fault)
+IsUnreadPlan plan refusals.Memory = ⊤
+IsUnreadPlan plan _ = ⊥

@@ -15,16 +15,16 @@ use Rattle.interval_walk.specs.Refusals.{PlanRefuses}
 use Rattle.interval_walk.specs.Soundness.{AreOutputs}
 use Rattle.interval_walk.specs.WalkReading.{ReadsPlan}
 use Rattle.pap_plan.specs.declared.refusal.PlanRefusal.{PlanRefusal}
-use Rattle.pap_plan.specs.Acceptance.{Meaning, IsOrderedPlan, HasBindings, IsAccepted, Answers}
+use Rattle.pap_plan.specs.Acceptance.{Meaning, IsOrderedPlan, HasBindings, IsAccepted, AcceptanceSays}
 
 -- every two texts have an answer
 abbrev pub HaveAnAnswer : Type 0
-HaveAnAnswer = (plan limits : List ℕ) → (a : Result Meaning PlanRefusal) × Answers plan limits a
+HaveAnAnswer = (plan limits : List ℕ) → (a : Result Meaning PlanRefusal) × AcceptanceSays plan limits a
 
 -- no two texts have two answers
 abbrev pub HaveOneAnswer : Type 0
 HaveOneAnswer =
-    (plan limits : List ℕ) (a b : Result Meaning PlanRefusal) → Answers plan limits a → Answers plan limits b → a ≡ b
+    (plan limits : List ℕ) (a b : Result Meaning PlanRefusal) → AcceptanceSays plan limits a → AcceptanceSays plan limits b → a ≡ b
 
 -- ---- what is accepted
 

@@ -48,7 +48,7 @@ range_refusal (ranges.Memory e) = refusals.Memory
 range_refusal f = refusals.Range f
 
 -- what a plan keeps beside what contracts see of it
-pub record IsKept (p : Seen) (most : ℕ) (inputs : List Slot) : Type 0 where
+pub record IsKeptPlan (p : Seen) (most : ℕ) (inputs : List Slot) : Type 0 where
   pub accepted : IsAccepted p.plan p.limits (meaning p)
   pub bound : most ≡ bound_of (flowchart_of p.text)
   pub slots : AreSlots p.ranges (flowchart_of p.text).inputs inputs

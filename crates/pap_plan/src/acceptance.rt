@@ -8,7 +8,7 @@ ghost use Rattle.interval_walk.specs.Reading.{HoldsPlan};
 ghost use Rattle.pap_plan.specs.Acceptance.{IsTypedPlan, IsRefusedOrMemory};
 ghost use Rattle.std.specs.List.{All};
 ghost use Rattle.limits_file.specs.Limits.{HasSoundBounds};
-ghost use Rattle.pap_plan.specs.AcceptanceClauses.{IsAcceptedAs, IsUnread};
+ghost use Rattle.pap_plan.specs.AcceptanceClauses.{IsAcceptedAs, IsUnreadPlan};
 ghost use Rattle.pap_plan.specs.private.AcceptanceClauses.{IsUntyped, AreMatched, IsUnmatched};
 ghost use Rattle.pap_plan.specs.private.JudgedViews.{IsJudged, IsMisjudged, HasVerdict, HasNoVerdict};
 ghost use Rattle.pap_plan.specs.AcceptanceLaws.{HaveAnAnswer, HaveOneAnswer, AcceptedPlansNeverFail, BoundsAreSmall, JudgedPlansAreRead, JudgedPlansAreRefusedByRows, OrderedPlansCanBeWalked, RangesAreNamed};
@@ -32,7 +32,7 @@ pub fn read_plan(alloc: Global, plan: &[u8]) -> Result<PlanText, PlanRefusal>
     ensures read { IfOk result (λ p. IsPlan plan.now (flowchart_of p)) }
     ensures counted { IfOk result (λ p. IsWithinCounts (flowchart_of p)) }
     ensures held { IfOk result (λ p. HoldsPlan (flowchart_of p)) }
-    ensures refused { IfErr result (IsUnread plan.now) }
+    ensures refused { IfErr result (IsUnreadPlan plan.now) }
 {
     Ok(plan_text::read_plan(alloc, plan)?)
 }

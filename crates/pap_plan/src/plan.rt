@@ -38,7 +38,7 @@ impl Model for Plan {
     ghost use Rattle.pap_tree.specs.contracts.plan.Stmt as statement;
     ghost use Rattle.pap_tree.specs.contracts.expression.Expr as expression;
     ghost use Rattle.pap_plan.specs.Plans.{Seen, seen};
-    ghost use Rattle.pap_plan.specs.StageRefusals.{IsKept};
+    ghost use Rattle.pap_plan.specs.StageRefusals.{IsKeptPlan};
 
     ghost Value = { Seen };
 
@@ -48,7 +48,8 @@ impl Model for Plan {
         seen p.plan.items p.limits.items p.typed p.ranges p.verdict.outputs.items p.code };
 
     ghost invariant = { λ p.
-        IsKept (seen p.plan.items p.limits.items p.typed p.ranges p.verdict.outputs.items p.code)
+        IsKeptPlan
+        (seen p.plan.items p.limits.items p.typed p.ranges p.verdict.outputs.items p.code)
         p.verdict.bound p.spec.slots };
 }
 

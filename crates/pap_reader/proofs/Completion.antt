@@ -8,7 +8,7 @@ use Rattle.std.proofs.lemmas.List.Sums.{sum_by-append, sum_by-cons}
 use Rattle.std.proofs.lemmas.List.Folds.{list_any-append}
 use Rattle.pap_reader.specs.declared.element.Element.{Element}
 use Rattle.pap_reader.specs.declared.element.Element.TheVariants.{Pap, Interface, Variables, Outputs, Output, Methods, Main, If, Then}
-use Rattle.pap_reader.specs.Table.{same, is_complete, all_stand, fits}
+use Rattle.pap_reader.specs.Table.{same, is_complete, all_stand, are_contents}
 use Rattle.pap_reader.specs.Structure.{Shape, opens, closes, Nodes, none, node, opens_internals, IsDocument, BeginsDocument}
 use Rattle.pap_reader.specs.private.NestingDecisions.{Open, fresh, enters, start}
 use Rattle.pap_reader.proofs.Structures.{Spelled, whole, within, adds, closed, nodes-append, more_stand, goes}
@@ -160,10 +160,10 @@ pub record Finished (ss : List Shape) : Type 0 where
   pub more : List Shape
   pub kinds : List Element
   pub nodes : Nodes (ss ++ more) kinds
-  pub root : fits None kinds ≡ true
+  pub root : are_contents None kinds ≡ true
   pub plain : count_by opens_internals more ≡ 0
 
-last_fits : (kinds more : List Element) → all_stand None [] kinds ≡ true → all_stand None kinds more ≡ true → is_complete None (kinds ++ more) ≡ true → fits None (kinds ++ more) ≡ true
+last_fits : (kinds more : List Element) → all_stand None [] kinds ≡ true → all_stand None kinds more ≡ true → is_complete None (kinds ++ more) ≡ true → are_contents None (kinds ++ more) ≡ true
 last_fits kinds more a b c = and_from (all_stand None [] (kinds ++ more)) (is_complete None (kinds ++ more)) (more_stand None kinds more a b) c
 
 finish_whole : {ss : List Shape} (o : Open) → Spelled (o ∷ []) ss → Finished ss

@@ -7,10 +7,10 @@ use Rattle.std.proofs.lemmas.List.{length-append, length-drop}
 use Rattle.pap_tree.specs.White.{is_white}
 use Rattle.pap_reader.specs.declared.tags.Form.{Form}
 use Rattle.pap_reader.specs.declared.tags.Form.TheVariants as forms
-use Rattle.pap_reader.specs.Tags.{Attribute, Tag, Front, IsAttribute, Ending, start, empty, more, IsTag, closing, NoTag}
+use Rattle.pap_reader.specs.Tags.{Attribute, Tag, BeforeValue, IsAttribute, Ending, start, empty, more, IsTag, closing, NoTag}
 use Rattle.pap_reader.specs.Bytes.{is_first, is_inner, begins_with, drop_while}
 use Rattle.std.specs.Char.{is_ascii_alphabetic}
-use Rattle.pap_reader.specs.Values.{Escape, Plain, Quoted, closing_quote, byte, is_quote, IsByte}
+use Rattle.pap_reader.specs.Values.{Escape, StandsForItself, Quoted, closing_quote, byte, is_quote, IsByte}
 use Rattle.pap_reader.specs.private.Values.{NoValue}
 use Rattle.pap_reader.specs.private.EscapeDecisions.{byte_named}
 use Rattle.pap_reader.specs.private.Views.{is_code, NoAttribute, NoEnding}
@@ -138,7 +138,7 @@ dec_escape bytes = elim (dec_stop bytes 38) [
   ]
 ]
 
-dec_plain : (q : ℕ) (bytes : List ℕ) → ((c : ℕ) × (rest : List ℕ) × Plain q bytes c rest) ⊎ ((c : ℕ) (rest : List ℕ) → Plain q bytes c rest → ⊥)
+dec_plain : (q : ℕ) (bytes : List ℕ) → ((c : ℕ) × (rest : List ℕ) × StandsForItself q bytes c rest) ⊎ ((c : ℕ) (rest : List ℕ) → StandsForItself q bytes c rest → ⊥)
 dec_plain q [] = inr (λ c rest p. no_cons c rest p.is)
 dec_plain q (b ∷ bytes) = elim (cases_Bool (b == q)) [
   | inl t ↦ inr (λ c rest p. both_ways (b == q) t (ap (λ z. z == q) (head_of b c bytes rest p.is) ∙ p.no_quote))
@@ -151,7 +151,7 @@ dec_plain q (b ∷ bytes) = elim (cases_Bool (b == q)) [
   ]
 ]
 
-neither : (q : ℕ) (bytes : List ℕ) (c : ℕ) (rest : List ℕ) → (Plain q bytes c rest → ⊥) → (Escape bytes c rest → ⊥) → IsByte q bytes c rest → ⊥
+neither : (q : ℕ) (bytes : List ℕ) (c : ℕ) (rest : List ℕ) → (StandsForItself q bytes c rest → ⊥) → (Escape bytes c rest → ⊥) → IsByte q bytes c rest → ⊥
 neither q bytes c rest n m (inl p) = n p
 neither q bytes c rest n m (inr e) = m e
 
@@ -193,7 +193,7 @@ quoted_shorter (byte {q} {c} {bytes} {next} h k) = let a = byte_shorter q bytes 
 
 -- ---- attributes
 
-front_shorter : (bytes : List ℕ) (f : Front bytes) → length f.text < length bytes
+front_shorter : (bytes : List ℕ) (f : BeforeValue bytes) → length f.text < length bytes
 front_shorter bytes f =
     let a = after_shorter is_white bytes in
     let b = after_shorter is_inner (drop_while is_white bytes) in
@@ -210,7 +210,7 @@ dec_opened (b ∷ x) = elim (cases_Bool (is_quote b)) [
   | inr t ↦ inr (λ q text e h. both_ways (is_quote b) (ap is_quote (head_of b q x text e) ∙ h) t)
 ]
 
-dec_front : (bytes : List ℕ) → Front bytes ⊎ (Front bytes → ⊥)
+dec_front : (bytes : List ℕ) → BeforeValue bytes ⊎ (BeforeValue bytes → ⊥)
 dec_front bytes = elim (cases_Bool (begins_with is_white bytes)) [
   | inr t ↦ inr (λ f. both_ways (begins_with is_white bytes) f.apart t)
   | inl t ↦ elim (cases_Bool (begins_with is_first (drop_while is_white bytes))) [

@@ -11,7 +11,7 @@ use Rattle.pap_reader.specs.Tags.{Attribute, Tag}
 use Rattle.pap_reader.specs.Tokens.{PlacedTag}
 use Rattle.pap_reader.specs.Marks.{Mark, begins, ends, marks_by, marks_of, marks, shape, shapes, element_of}
 use Rattle.pap_reader.specs.Trees.{RawBody, done, eval, branch, execute, RawRoutine}
-use Rattle.pap_reader.specs.Meaning.{join, Piece, both, later, or_done, routine, says, Says, none, node}
+use Rattle.pap_reader.specs.Meaning.{join, Piece, both, later, or_done, routine, says, ElementsSay, none, node}
 use Rattle.pap_reader.specs.Limits.{IsWithin}
 use Rattle.pap_reader.specs.private.CountDecisions.{deeper, depth_from}
 use Rattle.pap_reader.specs.TreeLimits.{raw_nesting, methods_nesting}
@@ -89,7 +89,7 @@ back : (d : ℕ) (e : Element) → deeper (deeper d (opens e)) (closes e) ≡ d
 back d elements.If = omega arith
 back d e = refl
 
-level : {ms : List Mark} {p : Piece} → Says ms p → (d : ℕ) → depth_from d (map shape ms) ≡ d
+level : {ms : List Mark} {p : Piece} → ElementsSay ms p → (d : ℕ) → depth_from d (map shape ms) ≡ d
 level none d = refl
 level (node {inside} {rest} e attributes i r) d =
     ap (depth_from (deeper d (opens e))) (map-append inside (ends e ∷ rest))
@@ -108,7 +108,7 @@ bounded_inside d e attributes inside rest h a b f =
     h (opens e ∷ a) (b ++ (closes e ∷ map shape rest))
     (ap (λ ss. opens e ∷ ss) (map-append inside (ends e ∷ rest) ∙ ap (λ ss. ss ++ (closes e ∷ map shape rest)) f ∙ append_assoc a b (closes e ∷ map shape rest)))
 
-bounded_rest : (d : ℕ) (e : Element) (attributes : List Attribute) (inside rest : List Mark) {p : Piece} → Says inside p
+bounded_rest : (d : ℕ) (e : Element) (attributes : List Attribute) (inside rest : List Mark) {p : Piece} → ElementsSay inside p
     → IsBounded d (map shape (begins e attributes ∷ (inside ++ (ends e ∷ rest)))) → IsBounded d (map shape rest)
 bounded_rest d e attributes inside rest i h a b f =
     let le = h (opens e ∷ (map shape inside ++ (closes e ∷ a))) b
@@ -118,7 +118,7 @@ bounded_rest d e attributes inside rest i h a b f =
     ∙ ap (λ n. depth_from (deeper n (closes e)) a) (level i (deeper d (opens e)))
     ∙ ap (λ n. depth_from n a) (back d e)) le
 
-pub deep : {ms : List Mark} {p : Piece} → Says ms p → (d : ℕ) → IsBounded d (map shape ms) → IsDeep d p
+pub deep : {ms : List Mark} {p : Piece} → ElementsSay ms p → (d : ℕ) → IsBounded d (map shape ms) → IsDeep d p
 deep none d h =
     let le = h [] [] refl in
     record { statements = omega arith; yes = omega arith; no = omega arith; main = omega arith; methods = omega arith }

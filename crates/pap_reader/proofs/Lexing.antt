@@ -5,8 +5,8 @@ use Rattle.std.proofs.lemmas.List.{append-nil}
 use Rattle.pap_tree.specs.White.{is_white}
 use Rattle.pap_reader.specs.declared.tags.Form.{Form}
 use Rattle.pap_reader.specs.declared.tags.Form.TheVariants as forms
-use Rattle.pap_reader.specs.Tags.{Attribute, Front, IsAttribute, Ending, start, empty, more}
-use Rattle.pap_reader.specs.Values.{Escape, Plain, Quoted, closing_quote, byte, is_quote, IsByte, NoByte}
+use Rattle.pap_reader.specs.Tags.{Attribute, BeforeValue, IsAttribute, Ending, start, empty, more}
+use Rattle.pap_reader.specs.Values.{Escape, StandsForItself, Quoted, closing_quote, byte, is_quote, IsByte, NoByte}
 use Rattle.pap_reader.specs.Bytes.{is_first, is_inner, begins_with, drop_while}
 use Rattle.std.specs.List.{take_while}
 use Rattle.pap_reader.specs.private.EscapeDecisions.{byte_named}
@@ -25,7 +25,7 @@ some_of b c e = cc
 both_ways : (b : Bool) → b ≡ true → b ≡ false → ⊥
 both_ways b e f = absurd cc
 
-plain_escape : (q : ℕ) (bytes : List ℕ) (c d : ℕ) (n m : List ℕ) → Plain q bytes c n → Escape bytes d m → ⊥
+plain_escape : (q : ℕ) (bytes : List ℕ) (c d : ℕ) (n m : List ℕ) → StandsForItself q bytes c n → Escape bytes d m → ⊥
 plain_escape q bytes c d n m p e =
     let f = found bytes d m e in
     let i : c ≡ 38 = head_of c 38 n f.inner (sym p.is ∙ f.amp) in
@@ -131,16 +131,16 @@ pub record Pieces (bytes named rest value text : List ℕ) (q : ℕ) : Type 0 wh
   pub equals : rest ≡ 61 ∷ value
   pub opened : drop_while is_white value ≡ q ∷ text
 
-value_is : (bytes named rest value : List ℕ) (f : Front bytes) → named ≡ drop_while is_white bytes → rest ≡ drop_while is_white (drop_while is_inner named) → rest ≡ 61 ∷ value → f.value ≡ value
+value_is : (bytes named rest value : List ℕ) (f : BeforeValue bytes) → named ≡ drop_while is_white bytes → rest ≡ drop_while is_white (drop_while is_inner named) → rest ≡ 61 ∷ value → f.value ≡ value
 value_is bytes named rest value f i j k = tail_of 61 61 f.value value (sym f.equals ∙ sym (j ∙ ap (λ x. drop_while is_white (drop_while is_inner x)) i) ∙ k)
 
 pub no_front : (bytes named rest value last : List ℕ) → named ≡ drop_while is_white bytes → rest ≡ drop_while is_white (drop_while is_inner named) → rest ≡ 61 ∷ value → last ≡ drop_while is_white value
-    → ((q : ℕ) (text : List ℕ) → last ≡ q ∷ text → is_quote q ≡ true → ⊥) → Front bytes → ⊥
+    → ((q : ℕ) (text : List ℕ) → last ≡ q ∷ text → is_quote q ≡ true → ⊥) → BeforeValue bytes → ⊥
 no_front bytes named rest value last i j k l h f =
     h f.quote f.text (l ∙ ap (drop_while is_white) (sym (value_is bytes named rest value f i j k)) ∙ f.opened) f.quotes
 
 abbrev pub a_front : (bytes named rest value last text : List ℕ) (q : ℕ) → begins_with is_white bytes ≡ true → begins_with is_first named ≡ true → named ≡ drop_while is_white bytes → rest ≡ drop_while is_white (drop_while is_inner named) → rest ≡ 61 ∷ value → last ≡ drop_while is_white value
-    → last ≡ q ∷ text → is_quote q ≡ true → Front bytes
+    → last ≡ q ∷ text → is_quote q ≡ true → BeforeValue bytes
 a_front bytes named rest value last text q a b i j k l m n = record {
   apart = a;
   named = sym (ap (begins_with is_first) i) ∙ b;
@@ -152,7 +152,7 @@ a_front bytes named rest value last text q a b i j k l m n = record {
   quotes = n;
 }
 
-pub same_front : (bytes : List ℕ) (f g : Front bytes) → (f.quote ≡ g.quote) × (f.text ≡ g.text)
+pub same_front : (bytes : List ℕ) (f g : BeforeValue bytes) → (f.quote ≡ g.quote) × (f.text ≡ g.text)
 same_front bytes f g =
     let v : f.value ≡ g.value = tail_of 61 61 f.value g.value (sym f.equals ∙ g.equals) in
     let o = sym f.opened ∙ ap (drop_while is_white) v ∙ g.opened in
@@ -161,7 +161,7 @@ same_front bytes f g =
 shorter_value : {q : ℕ} {bytes value rest : List ℕ} → Quoted q bytes value rest → 1 + length rest ≤ length bytes → (length bytes - length rest - 1) + 1 + length rest ≡ length bytes
 shorter_value h le = omega arith
 
-pub an_attribute : (bytes name text value rest : List ℕ) (q : ℕ) (f : Front bytes) → name ≡ take_while is_inner (drop_while is_white bytes) → q ≡ f.quote → text ≡ f.text → Quoted q text value rest → length rest < length text
+pub an_attribute : (bytes name text value rest : List ℕ) (q : ℕ) (f : BeforeValue bytes) → name ≡ take_while is_inner (drop_while is_white bytes) → q ≡ f.quote → text ≡ f.text → Quoted q text value rest → length rest < length text
     → IsAttribute bytes (record { name = name; written = length text - length rest - 1; value = value }) rest
 an_attribute bytes name text value rest q f i j k h lt = record {
   front = f;
@@ -170,7 +170,7 @@ an_attribute bytes name text value rest q f i j k h lt = record {
   written = (let l = ap length k in omega arith);
 }
 
-pub no_attribute : (bytes text : List ℕ) (q : ℕ) (f : Front bytes) → q ≡ f.quote → text ≡ f.text → ((value rest : List ℕ) → Quoted q text value rest → ⊥) → (a : Attribute) (rest : List ℕ) → IsAttribute bytes a rest → ⊥
+pub no_attribute : (bytes text : List ℕ) (q : ℕ) (f : BeforeValue bytes) → q ≡ f.quote → text ≡ f.text → ((value rest : List ℕ) → Quoted q text value rest → ⊥) → (a : Attribute) (rest : List ℕ) → IsAttribute bytes a rest → ⊥
 no_attribute bytes text q f j k h a rest g =
     let s = same_front bytes g.front f in
     h a.value rest (subst (λ z. Quoted z text a.value rest) (s.0 ∙ sym j) (subst (λ z. Quoted g.front.quote z a.value rest) (s.1 ∙ sym k) g.quoted))

@@ -7,7 +7,7 @@ use Rattle.pap_reader.specs.Structure.{Shape, opens, closes, Nodes}
 use Rattle.pap_reader.specs.Tags.{Attribute}
 use Rattle.pap_reader.specs.Marks.{Mark, begins, ends, alien, shape}
 use Rattle.pap_reader.specs.Trees.{RawBody, done, eval, branch, execute}
-use Rattle.pap_reader.specs.Meaning.{join, Piece, nothing, both, later, says, Says, none, node}
+use Rattle.pap_reader.specs.Meaning.{join, Piece, nothing, both, later, says, ElementsSay, none, node}
 use Rattle.pap_reader.specs.private.VerdictDecisions.{Work, with_piece, build, builds, begun}
 
 -- ---- pieces one after the other
@@ -73,7 +73,7 @@ both-assoc p q r = λ i. record {
 
 -- ---- what is built
 
-pub said : {ms : List Mark} {q : Piece} → Says ms q → (w : Work) (ws : List Work) (rest : List Mark) → builds (w ∷ ws) (ms ++ rest) ≡ builds (with_piece w q ∷ ws) rest
+pub said : {ms : List Mark} {q : Piece} → ElementsSay ms q → (w : Work) (ws : List Work) (rest : List Mark) → builds (w ∷ ws) (ms ++ rest) ≡ builds (with_piece w q ∷ ws) rest
 said none w ws rest = ap (λ p. builds (record { attributes = w.attributes; piece = p } ∷ ws) rest) (sym (both-nothing w.piece))
 said (node {inside} {rest = after} {p} {q} e attributes i r) w ws rest =
     let v : Work = record { attributes = attributes; piece = nothing } in
@@ -90,7 +90,7 @@ said (node {inside} {rest = after} {p} {q} e attributes i r) w ws rest =
 abbrev pub saying : Piece → List Work
 saying p = record { attributes = []; piece = p } ∷ []
 
-pub said_whole : (ms : List Mark) (q : Piece) → Says ms q → builds begun ms ≡ saying q
+pub said_whole : (ms : List Mark) (q : Piece) → ElementsSay ms q → builds begun ms ≡ saying q
 said_whole ms q h =
     ap (builds begun) (sym (append-nil ms)) ∙ said h (record { attributes = []; piece = nothing }) [] []
     ∙ ap (λ x. record { attributes = []; piece = x } ∷ []) (nothing-both q)
@@ -102,7 +102,7 @@ first_piece (w ∷ ws) = w.piece
 piece_is : (p q : Piece) → saying p ≡ saying q → p ≡ q
 piece_is p q e = ap first_piece e
 
-pub one_piece : (ms : List Mark) (p q : Piece) → Says ms p → Says ms q → p ≡ q
+pub one_piece : (ms : List Mark) (p q : Piece) → ElementsSay ms p → ElementsSay ms q → p ≡ q
 one_piece ms p q h k = piece_is p q (sym (said_whole ms p h) ∙ said_whole ms q k)
 
 pub builds-append : (ms ns : List Mark) (ws : List Work) → builds ws (ms ++ ns) ≡ builds (builds ws ms) ns
@@ -148,8 +148,8 @@ one_end (m ∷ ms) e h =
     let tail : map shape ms ≡ [] = cc in
     ap (λ x. x ∷ ms) (ends_is m e head) ∙ ap (λ x. ends e ∷ x) (no_marks ms tail)
 
-pub says_some : {ss : List Shape} {kinds : List Element} → Nodes ss kinds → (ms : List Mark) → map shape ms ≡ ss → (q : Piece) × Says ms q
-says_some structure.none ms e = (nothing, subst (λ x. Says x nothing) (sym (no_marks ms e)) none)
+pub says_some : {ss : List Shape} {kinds : List Element} → Nodes ss kinds → (ms : List Mark) → map shape ms ≡ ss → (q : Piece) × ElementsSay ms q
+says_some structure.none ms e = (nothing, subst (λ x. ElementsSay x nothing) (sym (no_marks ms e)) none)
 says_some (structure.node {inside} {rest} f i fit r) [] e = absurd cc
 says_some (structure.node {inside} {rest} f i fit r) (m ∷ ms) e =
     let head : shape m ≡ opens f = cc in
@@ -162,4 +162,4 @@ says_some (structure.node {inside} {rest} f i fit r) (m ∷ ms) e =
     let closing : d.front ≡ ends f ∷ [] = one_end d.front f d.front_is in
     let whole : m ∷ ms ≡ begins f b.0 ∷ (c.front ++ (ends f ∷ d.back)) =
     ap (λ x. x ∷ ms) b.1 ∙ ap (λ x. begins f b.0 ∷ x) (c.whole ∙ ap (λ x. c.front ++ x) (d.whole ∙ ap (λ x. x ++ d.back) closing)) in
-    (both (says f b.0 p.0) q.0, subst (λ x. Says x (both (says f b.0 p.0) q.0)) (sym whole) (node {inside = c.front} {rest = d.back} {p = p.0} {q = q.0} f b.0 p.1 q.1))
+    (both (says f b.0 p.0) q.0, subst (λ x. ElementsSay x (both (says f b.0 p.0) q.0)) (sym whole) (node {inside = c.front} {rest = d.back} {p = p.0} {q = q.0} f b.0 p.1 q.1))

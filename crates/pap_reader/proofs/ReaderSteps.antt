@@ -22,7 +22,7 @@ use Rattle.pap_reader.specs.Limits.{counts, is_counted, most, tested}
 use Rattle.pap_reader.specs.private.CountDecisions.{deeper, depth_from, tally}
 use Rattle.pap_reader.specs.private.VerdictDecisions.{IsFew, built, begun, Work, build, first_over, within, entered}
 use Rattle.pap_reader.specs.Trees.{RawBody, raw_body_of, tree_of}
-use Rattle.pap_reader.specs.Meaning.{later, Piece, nothing, both, outside, adds, or_done, piece_tree}
+use Rattle.pap_reader.specs.Meaning.{later, Piece, nothing, both, said_outside, adds, or_done, piece_tree}
 use Rattle.pap_reader.specs.private.Views.{HasFlags, Tallies, IsSmall, IsMore, one_if, IsValueOf}
 use Rattle.pap_reader.specs.private.ReaderViews.{one_verdict, ShowsPlan, IsValueIn, ShowsOpen, Closed, ShowsAll, total}
 use Rattle.pap_reader.proofs.Pieces.{both-nothing, later-assoc}
@@ -267,9 +267,9 @@ later_thrice : (t v p a : Option RawBody) → later (later (later t v) p) a ≡ 
 later_thrice t v p None = later-assoc t v p
 later_thrice t v p (Some b) = refl
 
-plan_closed : (x : Elements) (t v p a : Piece) → ShowsPlan x (both (both (both t v) p) a) → ShowsPlan x (both t (both v (both (outside p) a)))
+plan_closed : (x : Elements) (t v p a : Piece) → ShowsPlan x (both (both (both t v) p) a) → ShowsPlan x (both t (both v (both (said_outside p) a)))
 plan_closed x t v p a h =
-    plan_lists x (both (both (both t v) p) a) (both t (both v (both (outside p) a))) (thrice t.inputs v.inputs p.inputs a.inputs) (thrice t.outputs v.outputs p.outputs a.outputs) (thrice t.internals v.internals p.internals a.internals)
+    plan_lists x (both (both (both t v) p) a) (both t (both v (both (said_outside p) a))) (thrice t.inputs v.inputs p.inputs a.inputs) (thrice t.outputs v.outputs p.outputs a.outputs) (thrice t.internals v.internals p.internals a.internals)
     (thrice t.constants v.constants p.constants a.constants) (later_thrice t.main v.main p.main a.main) (thrice t.methods v.methods p.methods a.methods) h
 
 -- the parts and the plan after an element ended

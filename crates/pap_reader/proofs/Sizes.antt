@@ -10,7 +10,7 @@ use Rattle.pap_reader.specs.Structure.{opens, closes}
 use Rattle.pap_reader.specs.Tags.{Attribute}
 use Rattle.pap_reader.specs.Marks.{Mark, begins, ends, shape}
 use Rattle.pap_reader.specs.Trees.{RawBody, done, eval, branch, execute, RawRoutine}
-use Rattle.pap_reader.specs.Meaning.{join, Piece, nothing, both, later, or_done, routine, adds, says, Says, none, node}
+use Rattle.pap_reader.specs.Meaning.{join, Piece, nothing, both, later, or_done, routine, adds, says, ElementsSay, none, node}
 use Rattle.pap_reader.specs.Limits.{counts, is_counted}
 use Rattle.pap_reader.specs.TreeLimits.{raw_written, methods_written}
 use Rattle.pap_reader.specs.private.Views.{one_if}
@@ -30,7 +30,7 @@ count_node w e attributes inside rest =
     ∙ ap (λ ss. one_if (is_counted w e) + count_by (counts w) ss) (map-append inside (ends e ∷ rest))
     ∙ ap (λ n. one_if (is_counted w e) + n) (count_by-append (counts w) (map shape inside) (closes e ∷ map shape rest))
 
-pub measured : (w : Which) (size : Piece → ℕ) → Measures w size → {ms : List Mark} {p : Piece} → Says ms p → size p ≤ count_by (counts w) (map shape ms)
+pub measured : (w : Which) (size : Piece → ℕ) → Measures w size → {ms : List Mark} {p : Piece} → ElementsSay ms p → size p ≤ count_by (counts w) (map shape ms)
 measured w size h none = let e = h.at_nothing in omega arith
 measured w size h (node {inside} {rest} {p} {q} e attributes i r) =
     let a = measured w size h i in

@@ -5,7 +5,7 @@ use Rattle.std.proofs.lemmas.Bool.{and_parts, and_from, eqb-true, cases_Bool}
 use Rattle.std.proofs.lemmas.List.{append-nil}
 use Rattle.pap_reader.specs.declared.element.Element.{Element}
 use Rattle.pap_reader.specs.declared.element.Element.TheVariants.{Pap, Interface, Variables, Inputs, Outputs, Internals, Constants, Input, Output, Internal, Constant, Methods, Main, Method, Eval, Execute, If, Then, Else}
-use Rattle.pap_reader.specs.Table.{number, same, may_stand, is_complete, all_stand, fits}
+use Rattle.pap_reader.specs.Table.{number, same, may_stand, is_complete, all_stand, are_contents}
 use Rattle.pap_reader.specs.Structure.{Shape, opens, closes, foreign, Nodes, none, node}
 use Rattle.pap_reader.specs.private.NestingDecisions.{Open, fresh, with_child, is_inside, enter, enters}
 
@@ -130,7 +130,7 @@ adds {ns = l} {ks = ls} (within {o} {os} {before} {inside} {kinds} g h m n f) ns
 pub closed : {u o : Open} {os : List Open} {ss : List Shape} (e : Element) → Spelled (u ∷ o ∷ os) ss → u.inside ≡ Some e → is_complete u.inside u.children ≡ true → Spelled (o ∷ os) (ss ++ (closes e ∷ []))
 closed e (within {o} {os} {before} {inside} {kinds} f h m n a) i c =
     let same_kind : f ≡ e = cc in
-    let fit : fits (Some f) kinds ≡ true = and_from (all_stand (Some f) [] kinds) (is_complete (Some f) kinds) a c in
+    let fit : are_contents (Some f) kinds ≡ true = and_from (all_stand (Some f) [] kinds) (is_complete (Some f) kinds) a c in
     let attributes : Nodes (opens f ∷ (inside ++ (closes f ∷ []))) (f ∷ []) = node f n fit none in
     let all = adds h attributes (and_from (may_stand o.inside o.children f) true m refl) in
     subst (λ x. Spelled (with_child o f ∷ os) x) (sym (append_assoc before (opens f ∷ inside) (closes e ∷ [])))

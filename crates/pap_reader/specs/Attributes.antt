@@ -79,9 +79,9 @@ has_form a_name v = is_name v
 has_form (a_type ks) v = is_kind ks (kind_of v)
 
 -- the value of the attribute of that name
-abbrev pub value_of : List ℕ → List Attribute → Option (List ℕ)
-value_of name [] = None
-value_of name (a ∷ attributes) = if bytes_eq a.name name then Some a.value else value_of name attributes
+abbrev pub attribute_value : List ℕ → List Attribute → Option (List ℕ)
+attribute_value name [] = None
+attribute_value name (a ∷ attributes) = if bytes_eq a.name name then Some a.value else attribute_value name attributes
 
 -- the value is there, in this form
 abbrev pub is_met_by : ValueForm → Option (List ℕ) → Bool
@@ -90,7 +90,7 @@ is_met_by form (Some v) = has_form form v
 
 -- the attribute is there, in its form
 abbrev pub is_met : List Attribute → Need → Bool
-is_met attributes n = is_met_by n.form (value_of n.name attributes)
+is_met attributes n = is_met_by n.form (attribute_value n.name attributes)
 
 -- No two of the texts are the same.
 abbrev pub are_different : List (List ℕ) → Bool

@@ -12,7 +12,7 @@ use Rattle.pap_reader.specs.Tokens.{PlacedTag, placed, Reads, IsAlien}
 use Rattle.pap_reader.specs.Marks.{marks, shapes}
 use Rattle.pap_reader.specs.Attributes.{mark_is_right}
 use Rattle.pap_reader.specs.Trees.{ElementTree}
-use Rattle.pap_reader.specs.Meaning.{Piece, Says, piece_tree}
+use Rattle.pap_reader.specs.Meaning.{Piece, ElementsSay, piece_tree}
 use Rattle.pap_reader.specs.Limits.{most, IsWithin}
 use Rattle.pap_reader.specs.Faults.{Earns, IsClean}
 
@@ -21,7 +21,7 @@ pub record HasTree (ts : List PlacedTag) (x : ElementTree) : Type 0 where
   pub document : IsDocument (shapes ts)
   pub right : list_all mark_is_right (marks ts) ≡ true
   pub piece : Piece
-  pub says : Says (marks ts) piece
+  pub says : ElementsSay (marks ts) piece
   pub tree : piece_tree piece ≡ x
 
 -- The bytes are an element text with this tree.

@@ -6,7 +6,7 @@ use Rattle.pap_reader.specs.declared.element.Element.{Element}
 use Rattle.pap_reader.specs.declared.element.Element.TheVariants.{Input, Output, Internal, Constant, Main, Method, Eval, Execute, If, Then, Else}
 use Rattle.pap_reader.specs.Tags.{Attribute}
 use Rattle.pap_reader.specs.Marks.{Mark, begins, ends}
-use Rattle.pap_reader.specs.Attributes.{value_of, kind_of}
+use Rattle.pap_reader.specs.Attributes.{attribute_value, kind_of}
 use Rattle.pap_reader.specs.Trees.{RawDeclaration, RawBody, done, eval, branch, execute, RawRoutine, ElementTree}
 
 -- two lists of statements, one after the other
@@ -78,20 +78,20 @@ or_int None = kinds.Int
 or_int (Some k) = k
 
 -- the text of an attribute
-abbrev pub text_of : List ℕ → List Attribute → List ℕ
-text_of name attributes = or_empty (value_of name attributes)
+abbrev pub attribute_text : List ℕ → List Attribute → List ℕ
+attribute_text name attributes = or_empty (attribute_value name attributes)
 
 -- a declared name, whose value stands in the attribute of the given name
 abbrev pub declared : List ℕ → List Attribute → RawDeclaration
 declared value attributes = record {
-  name = text_of (codes "name") attributes;
-  kind = or_int (kind_of (text_of (codes "type") attributes));
-  value = value_of value attributes;
+  name = attribute_text (codes "name") attributes;
+  kind = or_int (kind_of (attribute_text (codes "type") attributes));
+  value = attribute_value value attributes;
 }
 
 -- a method, named by its attribute
 abbrev pub routine : List Attribute → RawBody → RawRoutine
-routine attributes body = record { name = text_of (codes "name") attributes; body = body }
+routine attributes body = record { name = attribute_text (codes "name") attributes; body = body }
 
 -- the table of what an element with these attributes adds, from what stands inside it
 abbrev pub adds : Element → List Attribute → Piece → Piece
@@ -99,30 +99,30 @@ adds Input attributes p = record nothing { inputs = declared (codes "default") a
 adds Output attributes p = record nothing { outputs = declared (codes "default") attributes ∷ [] }
 adds Internal attributes p = record nothing { internals = declared (codes "default") attributes ∷ [] }
 adds Constant attributes p = record nothing { constants = declared (codes "value") attributes ∷ [] }
-adds Eval attributes p = record nothing { statements = eval (text_of (codes "exec") attributes) done }
-adds Execute attributes p = record nothing { statements = execute (text_of (codes "method") attributes) done }
+adds Eval attributes p = record nothing { statements = eval (attribute_text (codes "exec") attributes) done }
+adds Execute attributes p = record nothing { statements = execute (attribute_text (codes "method") attributes) done }
 adds If attributes p =
-    record nothing { statements = branch (text_of (codes "expr") attributes) (or_done p.yes) (or_done p.no) done }
+    record nothing { statements = branch (attribute_text (codes "expr") attributes) (or_done p.yes) (or_done p.no) done }
 adds Then attributes p = record nothing { yes = Some p.statements }
 adds Else attributes p = record nothing { no = Some p.statements }
 adds Main attributes p = record nothing { main = Some p.statements }
 adds Method attributes p = record nothing { methods = routine attributes p.statements ∷ [] }
 adds _ attributes p = nothing
 
--- What stands inside an element says this outside of it too: all but statements.
-abbrev pub outside : Piece → Piece
-outside p = record p { statements = done; yes = None; no = None }
+-- What stands inside an element says this said_outside of it too: all but statements.
+abbrev pub said_outside : Piece → Piece
+said_outside p = record p { statements = done; yes = None; no = None }
 
 -- what an element says
 abbrev pub says : Element → List Attribute → Piece → Piece
-says e attributes p = both (outside p) (adds e attributes p)
+says e attributes p = both (said_outside p) (adds e attributes p)
 
 -- The marks are elements, one after the other, that say this.
-pub data Says : List Mark → Piece → Type 0 where
-  none : Says [] nothing
+pub data ElementsSay : List Mark → Piece → Type 0 where
+  none : ElementsSay [] nothing
   node : {inside rest : List Mark} {p q : Piece} (e : Element) (attributes : List Attribute)
-      → Says inside p → Says rest q
-      → Says (begins e attributes ∷ (inside ++ (ends e ∷ rest))) (both (says e attributes p) q)
+      → ElementsSay inside p → ElementsSay rest q
+      → ElementsSay (begins e attributes ∷ (inside ++ (ends e ∷ rest))) (both (says e attributes p) q)
 
 -- the tree that all elements of a text say
 abbrev pub piece_tree : Piece → ElementTree

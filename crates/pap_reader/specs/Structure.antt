@@ -2,7 +2,7 @@
 use Rattle.std.specs.Prelude.{◌≡◌, ◌≤◌, Bool, true, false, Some, None, List, [], ◌∷◌, ◌++◌, count_by}
 use Rattle.pap_reader.specs.declared.element.Element.{Element}
 use Rattle.pap_reader.specs.declared.element.Element.TheVariants.{Internals}
-use Rattle.pap_reader.specs.Table.{fits, same}
+use Rattle.pap_reader.specs.Table.{are_contents, same}
 
 -- where an element begins or ends, without its attributes
 pub data Shape : Type 0 where
@@ -15,7 +15,7 @@ pub data Shape : Type 0 where
 pub data Nodes : List Shape → List Element → Type 0 where
   none : Nodes [] []
   node : {inside rest : List Shape} {children kinds : List Element} (e : Element)
-      → Nodes inside children → fits (Some e) children ≡ true → Nodes rest kinds
+      → Nodes inside children → are_contents (Some e) children ≡ true → Nodes rest kinds
       → Nodes (opens e ∷ (inside ++ (closes e ∷ rest))) (e ∷ kinds)
 
 -- the shape begins an INTERNALS
@@ -27,7 +27,7 @@ opens_internals _ = false
 pub record IsDocument (ss : List Shape) : Type 0 where
   pub kinds : List Element
   pub nodes : Nodes ss kinds
-  pub root : fits None kinds ≡ true
+  pub root : are_contents None kinds ≡ true
   pub once : count_by opens_internals ss ≤ 1
 
 -- A prefix of a whole text: some shapes after it make one.

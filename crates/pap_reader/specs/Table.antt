@@ -134,5 +134,5 @@ all_stand parent before (child ∷ children) =
     may_stand parent before child && all_stand parent (before ++ (child ∷ [])) children
 
 -- the children are what the element may contain
-abbrev pub fits : Option Element → List Element → Bool
-fits parent children = all_stand parent [] children && is_complete parent children
+abbrev pub are_contents : Option Element → List Element → Bool
+are_contents parent children = all_stand parent [] children && is_complete parent children

@@ -25,7 +25,7 @@ pub record Tag : Type 0 where
 
 -- What stands before an attribute's value: white space, a name, `=` and a quote, with white space round the `=` where
 -- there is some.
-pub record Front (bytes : List ℕ) : Type 0 where
+pub record BeforeValue (bytes : List ℕ) : Type 0 where
   pub apart : begins_with is_white bytes ≡ true
   pub named : begins_with is_first (drop_while is_white bytes) ≡ true
   pub value : List ℕ
@@ -38,12 +38,12 @@ pub record Front (bytes : List ℕ) : Type 0 where
 -- the name, the quote and the text of what stands before an attribute's value
 abbrev pub IsFrontOf : List ℕ → List ℕ → ℕ → List ℕ → Type 0
 IsFrontOf bytes name quote text =
-    (f : Front bytes)
+    (f : BeforeValue bytes)
     × (name ≡ take_while is_inner (drop_while is_white bytes)) × (quote ≡ f.quote) × (text ≡ f.text)
 
 -- an attribute
 pub record IsAttribute (bytes : List ℕ) (a : Attribute) (rest : List ℕ) : Type 0 where
-  pub front : Front bytes
+  pub front : BeforeValue bytes
   pub name : a.name ≡ take_while is_inner (drop_while is_white bytes)
   pub quoted : Quoted front.quote front.text a.value rest
   pub written : a.written + 1 + length rest ≡ length front.text

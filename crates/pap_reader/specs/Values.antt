@@ -27,7 +27,7 @@ pub record Escape (bytes : List ℕ) (c : ℕ) (rest : List ℕ) : Type 0 where
   pub byte : StandsFor word c
 
 -- a byte that stands for itself in a value with the quote q: neither the quote, nor `<`, nor `&`
-pub record Plain (q : ℕ) (bytes : List ℕ) (c : ℕ) (rest : List ℕ) : Type 0 where
+pub record StandsForItself (q : ℕ) (bytes : List ℕ) (c : ℕ) (rest : List ℕ) : Type 0 where
   pub is : bytes ≡ c ∷ rest
   pub no_quote : (c == q) ≡ false
   pub no_tag : (c == 60) ≡ false
@@ -35,7 +35,7 @@ pub record Plain (q : ℕ) (bytes : List ℕ) (c : ℕ) (rest : List ℕ) : Type
 
 -- a byte of a value with the quote q, for itself or by an escape
 abbrev pub IsByte : ℕ → List ℕ → ℕ → List ℕ → Type 0
-IsByte q bytes c rest = Plain q bytes c rest ⊎ Escape bytes c rest
+IsByte q bytes c rest = StandsForItself q bytes c rest ⊎ Escape bytes c rest
 
 -- No byte of a value can be read here.
 abbrev pub NoByte : ℕ → List ℕ → Type 0

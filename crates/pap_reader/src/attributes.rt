@@ -1,9 +1,9 @@
 //! What the attributes of a tag say.
 
 ghost use Rattle.std.specs.Prelude.{◌≡◌, codes, IfOk, option_map, Some};
-ghost use Rattle.pap_reader.specs.Attributes.{value_of, type_word, kind_of, is_kind, are_distinct, are_short, is_right, is_met_by, a_name, a_type, any_text};
+ghost use Rattle.pap_reader.specs.Attributes.{attribute_value, type_word, kind_of, is_kind, are_distinct, are_short, is_right, is_met_by, a_name, a_type, any_text};
 ghost use Rattle.pap_reader.specs.Trees.{items_of};
-ghost use Rattle.pap_reader.specs.Meaning.{text_of, or_int};
+ghost use Rattle.pap_reader.specs.Meaning.{attribute_text, or_int};
 ghost use Rattle.pap_reader.specs.Tags.{attributes_of};
 ghost use Rattle.pap_reader.specs.private.Views.{SomeWhere, IsValueOf, DeclaresOf, IsNamed, IsText, declares};
 
@@ -95,8 +95,8 @@ fn declared(
 /// The name in the attribute `word`, as what a tag says.
 fn named(attributes: &[Attribute], word: &[u8]) -> Option<TagValue>
     ensures { SomeWhere result
-        (is_met_by a_name (value_of word.now (attributes_of attributes.now)))
-        (IsNamed (text_of word.now (attributes_of attributes.now))) }
+        (is_met_by a_name (attribute_value word.now (attributes_of attributes.now)))
+        (IsNamed (attribute_text word.now (attributes_of attributes.now))) }
 {
     let name = name_in(attributes, word)?;
     Some(TagValue::Named(name))
@@ -109,8 +109,8 @@ fn text(
     word: &[u8],
 ) -> Result<Option<TagValue>, AllocError>
     ensures { IfOk result (λ o. SomeWhere o
-        (is_met_by any_text (value_of word.now (attributes_of attributes.now)))
-        (IsText (text_of word.now (attributes_of attributes.now)))) }
+        (is_met_by any_text (attribute_value word.now (attributes_of attributes.now)))
+        (IsText (attribute_text word.now (attributes_of attributes.now)))) }
 {
     match value_of(attributes, word) {
         Some(text) => Ok(Some(TagValue::Text(text.to_vec(alloc)?))),
@@ -130,8 +130,8 @@ fn copied(alloc: Global, text: Option<&[u8]>) -> Result<Option<Vec<u8>>, AllocEr
 /// The name in the attribute `word`.
 fn name_in(attributes: &[Attribute], word: &[u8]) -> Option<Name>
     ensures { SomeWhere result
-        (is_met_by a_name (value_of word.now (attributes_of attributes.now)))
-        (λ n. n ≡ text_of word.now (attributes_of attributes.now)) }
+        (is_met_by a_name (attribute_value word.now (attributes_of attributes.now)))
+        (λ n. n ≡ attribute_text word.now (attributes_of attributes.now)) }
 {
     Name::read(value_of(attributes, word)?)
 }
@@ -139,8 +139,9 @@ fn name_in(attributes: &[Attribute], word: &[u8]) -> Option<Name>
 /// The type in the attribute `type`, where it is one of these.
 fn kind_in(attributes: &[Attribute], kinds: &[Kind]) -> Option<Kind>
     ensures { SomeWhere result
-        (is_met_by (a_type kinds.now) (value_of (codes "type") (attributes_of attributes.now)))
-        (λ k. k ≡ or_int (kind_of (text_of (codes "type") (attributes_of attributes.now)))) }
+        (is_met_by (a_type kinds.now)
+        (attribute_value (codes "type") (attributes_of attributes.now)))
+        (λ k. k ≡ or_int (kind_of (attribute_text (codes "type") (attributes_of attributes.now)))) }
 {
     let kind = kind_of(value_of(attributes, b"type")?)?;
     if is_kind(kinds, kind) {
@@ -178,7 +179,8 @@ fn kind_of(word: &[u8]) -> Option<Kind>
 
 /// The value of the first attribute of that name.
 pub fn value_of<'t>(attributes: &'t [Attribute], name: &[u8]) -> Option<&'t [u8]>
-    ensures { option_map (λ v. v.now) result ≡ value_of name.now (attributes_of attributes.now) }
+    ensures { option_map (λ v. v.now) result
+        ≡ attribute_value name.now (attributes_of attributes.now) }
 {
     for attribute in attributes {
         if attribute.name == name {

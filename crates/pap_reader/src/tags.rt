@@ -2,7 +2,7 @@
 
 ghost use Rattle.std.specs.Prelude.{◌≡◌, ◌<◌, ◌∷◌, [], true, length, MatchOption, IfOk, IfSome};
 ghost use Rattle.pap_reader.specs.Values.{is_quote};
-ghost use Rattle.pap_reader.specs.Tags.{Front, IsAttribute, Ending, IsTag, attribute_of, attributes_of, tag_of, NoTag, IsFrontOf};
+ghost use Rattle.pap_reader.specs.Tags.{BeforeValue, IsAttribute, Ending, IsTag, attribute_of, attributes_of, tag_of, NoTag, IsFrontOf};
 ghost use Rattle.pap_reader.specs.private.Views.{NoQuote, NoAttribute, NoClosing, NoEnding};
 
 use crate::bytes::{
@@ -74,7 +74,7 @@ fn split_quote(bytes: &[u8]) -> Option<(u8, &[u8])>
 /// What stands before the value of the attribute that comes first.
 pub fn read_value_front(bytes: &[u8]) -> Option<ValueFront<'_>>
     ensures found { MatchOption result
-        ((f : Front bytes.now) → ⊥)
+        ((f : BeforeValue bytes.now) → ⊥)
         (λ r. IsFrontOf bytes.now r.name.now r.quote r.text.now) }
     ensures shorter { IfSome result (λ r. length r.text.now < length bytes.now) }
 {

@@ -20,17 +20,17 @@ use Rattle.pap_tree.specs.Tokens as tokens
 use Rattle.pap_tree.specs.Tokens.{Sign, Number, Token, Literal, Quoted, Word, Operator, Mark, Question, Colon, Dot, Comma, Open, Close}
 
 -- the form of a literal: that of an `int`, that of a `long`, or one with a point
-pub data Form : Type 0 where
-  an_int : Form
-  a_long : Form
-  a_point : Form
+pub data LiteralForm : Type 0 where
+  an_int : LiteralForm
+  a_long : LiteralForm
+  a_point : LiteralForm
 
 -- The lines of the grammar.
 pub data Line : Type 0 where
   -- an expression: 0 is all of it, 1 to 6 the operators from `||` to `*`, 7 unary, 8 post, 9 prim
   Level : ℕ → Line
   -- a literal of this form, with a - before it or without
-  Signed : Form → Line
+  Signed : LiteralForm → Line
   -- mode
   Rounding : Line
   Assignment : Line
@@ -40,13 +40,13 @@ pub data Line : Type 0 where
   Bigs : Line
 
 -- what a text of a line stands for
-pub data Meaning : Type 0 where
-  tree : Term → Meaning
-  literal : Leaf → Meaning
-  mode : Mode → Meaning
-  assignment : List ℕ → Term → Meaning
-  declared : DeclaredLiteral → Meaning
-  decimals : List Decimal → Meaning
+pub data LineMeaning : Type 0 where
+  tree : Term → LineMeaning
+  literal : Leaf → LineMeaning
+  mode : Mode → LineMeaning
+  assignment : List ℕ → Term → LineMeaning
+  declared : DeclaredLiteral → LineMeaning
+  decimals : List Decimal → LineMeaning
 
 -- a place that holds a scale
 pub data Scaling : Type 0 where
@@ -69,7 +69,7 @@ pub data Item : Type 0 where
   -- the int of a scale
   Scale : Scaling → ℕ → Item
   -- a text of a line that stands for this
-  Part : Guard → Line → Meaning → Item
+  Part : Guard → Line → LineMeaning → Item
 
 -- the item that is an expression of a level
 abbrev pub at : ℕ → Term → Item
@@ -92,7 +92,7 @@ abbrev pub rounding : Mode → Item
 rounding m = Part free Rounding (mode m)
 
 -- the item that is a literal with or without a sign
-abbrev pub signed : Form → Leaf → Item
+abbrev pub signed : LiteralForm → Leaf → Item
 signed f l = Part free (Signed f) (literal l)
 
 -- the item that is a declared decimal
@@ -100,7 +100,7 @@ abbrev pub a_big : Decimal → Item
 a_big d = Part free Big (declared (big d))
 
 -- the form of a literal
-abbrev pub form_of : Number → Form
+abbrev pub form_of : Number → LiteralForm
 form_of (tokens.int n) = an_int
 form_of (tokens.long n) = a_long
 form_of (tokens.point d) = a_point
@@ -129,7 +129,7 @@ pub data Plain : Unary → List ℕ → Type 0 where
   abs : Plain Abs (codes "abs")
 
 -- The ways through each line: the items, one after the other, and what a text of the line by this way stands for.
-pub data Way : Line → List Item → Meaning → Type 0 where
+pub data Way : Line → List Item → LineMeaning → Type 0 where
   -- expr, and each line of it is also the next one
   choose : (c a b : Term) → Way (Level 0) (at 1 c ∷ opens Question ∷ at 0 a ∷ sign Colon ∷ at 0 b ∷ []) (tree (choice c a b))
   tighter : (n : ℕ) (x : Term) → n < 9 → Way (Level n) (at (suc n) x ∷ []) (tree x)
@@ -151,7 +151,7 @@ pub data Way : Line → List Item → Meaning → Type 0 where
   plain_call : (u : Unary) (w : List ℕ) (x : Term) → Plain u w → Way (Level 8)
       (at 8 x ∷ sign Dot ∷ word w ∷ opens Open ∷ sign Close ∷ []) (tree (one (unary u) x))
   -- prim
-  a_literal : (f : Form) (l : Leaf) → Way (Level 9) (signed f l ∷ []) (tree (leaf l))
+  a_literal : (f : LiteralForm) (l : Leaf) → Way (Level 9) (signed f l ∷ []) (tree (leaf l))
   a_name : (x : List ℕ) → IsTrue (is_name x) → Way (Level 9) (word x ∷ []) (tree (leaf (named x)))
   an_item : (x : List ℕ) (i : Term) → IsTrue (is_name x)
       → Way (Level 9) (word x ∷ opens tokens.OpenItem ∷ at 0 i ∷ sign tokens.CloseItem ∷ []) (tree (item x i))
@@ -169,8 +169,8 @@ pub data Way : Line → List Item → Meaning → Type 0 where
   a_new_text : (d : Decimal) → Way (Level 9)
       (word (codes "new") ∷ word (codes "BigDecimal") ∷ opens Open ∷ Is (Quoted d) ∷ sign Close ∷ []) (tree (leaf (text d)))
   -- a literal, with a - before it or without
-  without_sign : (f : Form) (n : Number) → form_of n ≡ f → Way (Signed f) (Is (Literal n) ∷ []) (literal (leaf_of n))
-  with_sign : (f : Form) (n : Number) → form_of n ≡ f → Way (Signed f) (Opens (Operator Sub) ∷ Is (Literal n) ∷ []) (literal (negative_of n))
+  without_sign : (f : LiteralForm) (n : Number) → form_of n ≡ f → Way (Signed f) (Is (Literal n) ∷ []) (literal (leaf_of n))
+  with_sign : (f : LiteralForm) (n : Number) → form_of n ≡ f → Way (Signed f) (Opens (Operator Sub) ∷ Is (Literal n) ∷ []) (literal (negative_of n))
   -- mode
   old_mode : (m : Mode) → Way Rounding (word (codes "BigDecimal") ∷ sign Dot ∷ word (round_word m) ∷ []) (mode m)
   new_mode : (m : Mode) → Way Rounding (word (codes "RoundingMode") ∷ sign Dot ∷ word (mode_word m) ∷ []) (mode m)
@@ -181,7 +181,7 @@ pub data Way : Line → List Item → Meaning → Type 0 where
       → Way Assignment (word x ∷ sign tokens.Equals ∷ at 0 e ∷ sign tokens.Semicolon ∷ []) (assignment x e)
   -- constant
   big_constant : (d : Decimal) → Way Constant (a_big d ∷ []) (declared (big d))
-  number_constant : (f : Form) (l : Leaf) → Way Constant (signed f l ∷ []) (declared (number l))
+  number_constant : (f : LiteralForm) (l : Leaf) → Way Constant (signed f l ∷ []) (declared (number l))
   table_constant : (ds : List Decimal) → Way Constant
       (sign tokens.OpenTable ∷ Part free Bigs (decimals ds) ∷ sign tokens.CloseTable ∷ []) (declared (table ds))
   last_big : (d : Decimal) → Way Bigs (a_big d ∷ []) (decimals (d ∷ []))

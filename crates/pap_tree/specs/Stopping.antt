@@ -6,8 +6,8 @@ use Rattle.pap_tree.specs.Limits.{most_tokens, most_levels}
 use Rattle.pap_tree.specs.Names.{is_name}
 use Rattle.pap_tree.specs.declared.expression.Binary.TheVariants.{Sub}
 use Rattle.pap_tree.specs.Tokens.{Token, Literal, Beyond, Word, Operator, Mark, Dot, Open, Close, int, point, Spot, plain}
-use Rattle.pap_tree.specs.Grammar.{Item, Scale, Line, Constant, Meaning, Scaling, of_quotient, of_setting}
-use Rattle.pap_tree.specs.Texts.{Text}
+use Rattle.pap_tree.specs.Grammar.{Item, Scale, Line, Constant, LineMeaning, Scaling, of_quotient, of_setting}
+use Rattle.pap_tree.specs.Texts.{Derives}
 use Rattle.pap_tree.specs.Fronts.{Front, IsFront}
 
 -- a declared literal may be of any length
@@ -96,14 +96,14 @@ Earns l before t number = IsGreat l before t
 Earns l before t deep = IsDeep l before t
 
 -- the first of the causes that the token earns
-pub record HasCause (l : Line) (before : List Token) (t : Token) (c : Cause) : Type 0 where
+pub record HasStopCause (l : Line) (before : List Token) (t : Token) (c : Cause) : Type 0 where
   pub earned : Earns l before t c
   pub first : (d : Cause) → rank c < rank d → Earns l before t d → ⊥
 
 -- what stops the reading: the next token, or the end of the text
 abbrev pub StopsBefore : Line → ℕ → List Token → List Spot → Cause → ℕ → Type 0
-StopsBefore l end before [] c at = (at ≡ end) × (c ≡ syntax) × ((x : Meaning) → Text l before x → ⊥)
-StopsBefore l end before (t ∷ ts) c at = (at ≡ t.at) × Stops l before t.token × HasCause l before t.token c
+StopsBefore l end before [] c at = (at ≡ end) × (c ≡ syntax) × ((x : LineMeaning) → Derives l before x → ⊥)
+StopsBefore l end before (t ∷ ts) c at = (at ≡ t.at) × Stops l before t.token × HasStopCause l before t.token c
 
 -- the tokens of a text of so many bytes are refused for this cause at this place
 pub record IsRefusedAt (l : Line) (ts : List Spot) (end : ℕ) (c : Cause) (at : ℕ) : Type 0 where

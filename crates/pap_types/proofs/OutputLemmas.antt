@@ -13,7 +13,7 @@ use Rattle.pap_types.specs.Checks.{IsWellTyped}
 use Rattle.pap_types.specs.MeaningLaws.{OutputsStandByName}
 use Rattle.pap_types.specs.Scopes.{names_of, variables_of}
 use Rattle.pap_types.specs.Typing.{AreDistinct, declarations_of}
-use Rattle.pap_types.specs.Values.{Env, Entry, look}
+use Rattle.pap_types.specs.Values.{Env, Variable, look}
 use Rattle.pap_types.proofs.RunLemmas.{entry_names, names-ends}
 use Rattle.pap_types.proofs.TypingLemmas.{has_types}
 
@@ -25,7 +25,7 @@ other_name x y differ = by_test (bytes_eq x y) refl
     by_test false e = e
 
 -- an entry hides no other name
-others_stay : (v : Entry) (vs : Env) (xs : List (List ℕ)) → ((j : ℕ) (d : List ℕ) → j < length xs → v.name ≢ get_or xs j d) → map (look vs) xs ≡ map (look (v ∷ vs)) xs
+others_stay : (v : Variable) (vs : Env) (xs : List (List ℕ)) → ((j : ℕ) (d : List ℕ) → j < length xs → v.name ≢ get_or xs j d) → map (look vs) xs ≡ map (look (v ∷ vs)) xs
 others_stay v vs [] h = refl
 others_stay v vs (x ∷ xs) h =
     let other = other_name v.name x (h 0 [] (omega arith)) in
@@ -68,8 +68,8 @@ stand_by_name f typed inputs ends given e =
     let found = all_found ends (subst AreDistinct (sym named) (variables_distinct f typed)) in
     let n = length f.inputs in
     let k = length f.outputs in
-    sym (part_of Some n k (map (λ (v : Entry). v.value) ends))
-    ∙ ap (λ xs. take k (drop n xs)) (map-map Some (λ (v : Entry). v.value) ends ∙ found ∙ ap (map (look ends)) named)
+    sym (part_of Some n k (map (λ (v : Variable). v.value) ends))
+    ∙ ap (λ xs. take k (drop n xs)) (map-map Some (λ (v : Variable). v.value) ends ∙ found ∙ ap (map (look ends)) named)
     ∙ part_of (look ends) n k (names_of (variables_of f))
     ∙ ap (map (look ends)) (part_of (λ (d : Declaration). d.name) n k (variables_of f) ∙ ap names_of (between f.inputs f.outputs f.internals))
     ∙ map-map (look ends) (λ (d : Declaration). d.name) f.outputs

@@ -10,7 +10,7 @@ use Rattle.pap_tree.specs.Declarations.{Declaration}
 use Rattle.pap_tree.specs.Flowchart.{Body, done, eval, branch, execute, Routine, Flowchart}
 use Rattle.pap_types.specs.Scopes.{Scope, scope_of, names_of, variables_of}
 use Rattle.pap_types.specs.Operations.{is_zero}
-use Rattle.pap_types.specs.Values.{Env, Entry, value, put}
+use Rattle.pap_types.specs.Values.{Env, Variable, value, put_value}
 use Rattle.pap_types.specs.Routines.{body_named}
 use Rattle.pap_types.specs.Runs.{Calls, after, assigned, calls_of}
 use Rattle.pap_types.specs.Limits.{longest_chain}
@@ -23,11 +23,11 @@ entry_names env = map (λ v. v.name) env
 
 -- ---- what a run keeps
 
-put_or_not : (v : Entry) (vs : Env) (x : List ℕ) (d : Decimal) → entry_names (put vs x d) ≡ entry_names vs → (b : Bool) → entry_names (if b then record v { value = d } ∷ vs else v ∷ put vs x d) ≡ v.name ∷ entry_names vs
+put_or_not : (v : Variable) (vs : Env) (x : List ℕ) (d : Decimal) → entry_names (put_value vs x d) ≡ entry_names vs → (b : Bool) → entry_names (if b then record v { value = d } ∷ vs else v ∷ put_value vs x d) ≡ v.name ∷ entry_names vs
 put_or_not v vs x d h true = refl
 put_or_not v vs x d h false = ap (λ ns. v.name ∷ ns) h
 
-pub names-put : (env : Env) (x : List ℕ) (d : Decimal) → entry_names (put env x d) ≡ entry_names env
+pub names-put : (env : Env) (x : List ℕ) (d : Decimal) → entry_names (put_value env x d) ≡ entry_names env
 names-put [] x d = refl
 names-put (v ∷ vs) x d = put_or_not v vs x d (names-put vs x d) (bytes_eq v.name x)
 
@@ -73,7 +73,7 @@ names-first (d ∷ ds) = ap (λ ns. d.name ∷ ns) (names-first ds)
 -- a run starts with the variables in the order of their numbers
 pub names-start : (f : Flowchart) (inputs : List Decimal) → AreInputs f.inputs inputs → entry_names (start f inputs) ≡ names_of (variables_of f)
 names-start f inputs h =
-    map-append (λ (v : Entry). v.name) (given f.inputs inputs) (map first_entry (f.outputs ++ f.internals))
+    map-append (λ (v : Variable). v.name) (given f.inputs inputs) (map first_entry (f.outputs ++ f.internals))
     ∙ ap (λ ns. ns ++ entry_names (map first_entry (f.outputs ++ f.internals))) (names-given f.inputs inputs h)
     ∙ ap (λ ns. names_of f.inputs ++ ns) (names-first (f.outputs ++ f.internals))
     ∙ sym (map-append (λ (d : Declaration). d.name) f.inputs (f.outputs ++ f.internals))
@@ -87,13 +87,13 @@ names-ends f inputs ends h e =
 
 outputs_length : (f : Flowchart) (ends : Env) → entry_names ends ≡ names_of (variables_of f) → length (outputs_in f ends) ≡ length f.outputs
 outputs_length f ends e =
-    let all : length ends ≡ length (variables_of f) = sym (length-map ends (λ (v : Entry). v.name)) ∙ ap length e ∙ length-map (variables_of f) (λ (d : Declaration). d.name) in
-    let values : length (map (λ (v : Entry). v.value) ends) ≡ length ends = length-map ends (λ (v : Entry). v.value) in
+    let all : length ends ≡ length (variables_of f) = sym (length-map ends (λ (v : Variable). v.name)) ∙ ap length e ∙ length-map (variables_of f) (λ (d : Declaration). d.name) in
+    let values : length (map (λ (v : Variable). v.value) ends) ≡ length ends = length-map ends (λ (v : Variable). v.value) in
     let sum = length-append f.inputs (f.outputs ++ f.internals) in
     let more = length-append f.outputs f.internals in
-    let left = length-drop (length f.inputs) (map (λ (v : Entry). v.value) ends) in
-    let within : length f.outputs ≤ length (drop (length f.inputs) (map (λ (v : Entry). v.value) ends)) = omega (arith, left, values, all, sum, more) in
-    length-take-le (length f.outputs) (drop (length f.inputs) (map (λ (v : Entry). v.value) ends)) within
+    let left = length-drop (length f.inputs) (map (λ (v : Variable). v.value) ends) in
+    let within : length f.outputs ≤ length (drop (length f.inputs) (map (λ (v : Variable). v.value) ends)) = omega (arith, left, values, all, sum, more) in
+    length-take-le (length f.outputs) (drop (length f.inputs) (map (λ (v : Variable). v.value) ends)) within
 
 pub one_outputs : (f : Flowchart) (inputs : List Decimal) → IsSafeFor f inputs → HasOneOutputs f inputs
 one_outputs f inputs h = record {

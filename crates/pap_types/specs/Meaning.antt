@@ -10,7 +10,7 @@ use Rattle.pap_tree.specs.Declarations.{Declaration}
 use Rattle.pap_tree.specs.Flowchart.{Flowchart}
 use Rattle.pap_types.specs.Limits.{longest_chain}
 use Rattle.pap_types.specs.Scopes.{scope_of, first_value, factor_places}
-use Rattle.pap_types.specs.Values.{Env, Entry}
+use Rattle.pap_types.specs.Values.{Env, Variable}
 use Rattle.pap_types.specs.Runs.{Calls, after, spent, IsSafeBody, calls_of}
 use Rattle.pap_types.specs.Bounds.{body_bound, method_bound}
 
@@ -19,7 +19,7 @@ abbrev pub calls_in : Flowchart → Calls
 calls_in f = calls_of (scope_of f) f.methods longest_chain
 
 -- a variable with what it begins with
-abbrev pub first_entry : Declaration → Entry
+abbrev pub first_entry : Declaration → Variable
 first_entry d = record { name = d.name; value = first_value d }
 
 -- the inputs with the values that are supplied, in declared order

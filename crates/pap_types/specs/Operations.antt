@@ -30,8 +30,8 @@ holds_of binaries.Differs o = is_lt o || is_gt o
 holds_of _ o = false
 
 -- whether a comparison holds of two decimals, as a truth
-abbrev pub compared : Binary → Decimal → Decimal → Option Decimal
-compared op a b = Some (truth (holds_of op (value_order a b)))
+abbrev pub comparison_value : Binary → Decimal → Decimal → Option Decimal
+comparison_value op a b = Some (truth (holds_of op (value_order a b)))
 
 -- none where the divisor is zero
 abbrev pub unless_zero : Decimal → Decimal → Option Decimal
@@ -46,7 +46,7 @@ of_operator binaries.Plus a b = Some (of_wholes whole_sum a b)
 of_operator binaries.Sub a b = Some (of_wholes whole_difference a b)
 of_operator binaries.And a b = Some b
 of_operator binaries.Or a b = Some b
-of_operator o a b = compared o a b
+of_operator o a b = comparison_value o a b
 
 -- a method of one argument, of the value before the point and that in the brackets
 abbrev pub of_method : Call → Decimal → Decimal → Option Decimal

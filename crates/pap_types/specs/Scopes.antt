@@ -92,13 +92,13 @@ abbrev pub constant_in : Scope → List ℕ → Option Decimal
 constant_in scope x = option_map first_value (declared_as scope.constants x)
 
 -- the items of a table; a name that isn't a table has no items
-abbrev pub items_of : Option Declaration → List Decimal
-items_of None = []
-items_of (Some d) = declared_table d.value
+abbrev pub table_items : Option Declaration → List Decimal
+table_items None = []
+table_items (Some d) = declared_table d.value
 
 -- the items of the table of a name
 abbrev pub table_in : Scope → List ℕ → List Decimal
-table_in scope x = items_of (declaration_in scope x)
+table_in scope x = table_items (declaration_in scope x)
 
 -- the variables of a plan in the order of their numbers
 abbrev pub variables_of : Flowchart → List Declaration

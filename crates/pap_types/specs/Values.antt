@@ -11,13 +11,13 @@ use Rattle.scaled_decimal.specs.WholeNumbers.{item_at}
 use Rattle.pap_types.specs.Operations.{is_zero, of_one, of_two}
 
 -- a variable and its value
-pub record Entry : Type 0 where
+pub record Variable : Type 0 where
   pub name : List ℕ
   pub value : Decimal
 
 -- an environment: what each variable stands for
 abbrev pub Env : Type 0
-Env = List Entry
+Env = List Variable
 
 -- the value of the first variable of a name
 abbrev pub look : Env → List ℕ → Option Decimal
@@ -25,9 +25,9 @@ look [] x = None
 look (v ∷ vs) x = if bytes_eq v.name x then Some v.value else look vs x
 
 -- the entry of a name replaced
-abbrev pub put : Env → List ℕ → Decimal → Env
-put [] x d = []
-put (v ∷ vs) x d = if bytes_eq v.name x then record v { value = d } ∷ vs else v ∷ put vs x d
+abbrev pub put_value : Env → List ℕ → Decimal → Env
+put_value [] x d = []
+put_value (v ∷ vs) x d = if bytes_eq v.name x then record v { value = d } ∷ vs else v ∷ put_value vs x d
 
 -- whether the right operand is evaluated, given the value of the left one: that of && where the left one is true, that of
 -- || where it is false, any other always

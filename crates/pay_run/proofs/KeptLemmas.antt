@@ -21,7 +21,7 @@ use Rattle.payroll_records.specs.declared.values.NamedValue.{NamedValue}
 use Rattle.payroll_records.specs.NamedValues.{name_cmp, value_at}
 use Rattle.carry_bindings.specs.Carrying.{amount_of, amounts, zero_amount, carried}
 use Rattle.carry_bindings.specs.Conditions.{AreBounded}
-use Rattle.carry_bindings.specs.Filling.{value_by, given, value_of, fits, outside, inputs, missing, unknown, waits}
+use Rattle.carry_bindings.specs.Filling.{value_by, given_or_default, value_of, fits, outside, inputs, missing, unknown, waits}
 use Rattle.carry_bindings.specs.declared.carried.Earlier.{Earlier}
 use Rattle.carry_bindings.specs.declared.filling.Filled.TheVariants as filling
 use Rattle.carry_bindings.proofs.Laws.{IsPartial, sum_partial, abs_grows, amount_by, told}
@@ -106,10 +106,10 @@ module _ (l : Limits) (values : List NamedValue) (kept : All IsKeptValue values)
   by_kept (Some c) o h d e = let same : carried c earlier ≡ d = cc in subst IsKept same (carried_kept c)
   by_kept None o h d e = h d e
 
-  -- the value of an input: given, or its default, or carried over
+  -- the value of an input: given_or_default, or its default, or carried over
   value_kept : (d : Declaration) (s : Slot) → IsSlot l d s → HasKeptValue d → (v : Decimal) → value_of values earlier s ≡ Some v → IsKept v
   value_kept d s is h =
-      by_kept s.carry (given values s) (either_kept (option_map (λ (x : NamedValue). x.value) (value_at values s.name)) s.value (under_kept values kept s.name) (λ v e. h v (sym is.value ∙ e)))
+      by_kept s.carry (given_or_default values s) (either_kept (option_map (λ (x : NamedValue). x.value) (value_at values s.name)) s.value (under_kept values kept s.name) (λ v e. h v (sym is.value ∙ e)))
 
   inputs_kept : (ds : List Declaration) (slots : List Slot) → All (HasLimit l) ds → All HasKeptValue ds → AreSlots l ds slots → outside slots values earlier ≡ None → All IsKept (inputs slots values earlier)
   inputs_kept [] [] hl hd h o = All-nil IsKept

@@ -9,7 +9,7 @@ use Rattle.std.proofs.lemmas.Cmp.{tied_itself}
 use Rattle.rising_lists.specs.Keyed.{AreAbove, IsRising}
 use Rattle.rising_lists.proofs.Laws.{above_all}
 use Rattle.payroll_records.specs.NamedValues.{name_cmp, name_of}
-use Rattle.payroll_records.specs.Tables.{Text, IsWide, HasEmployee, HasMonth, HasDay, IsReadable, cell_of, field_of, IsRecordOf, key_of, WrongWidth, WrongEmployee, WrongMonth, WrongDay, WrongValue, Repeats, name_at}
+use Rattle.payroll_records.specs.Tables.{Text, FitsHeader, HasEmployee, HasMonth, HasDay, IsReadable, cell_of, field_of, IsRecordOf, key_of, WrongWidth, WrongEmployee, WrongMonth, WrongDay, WrongValue, Repeats, name_at}
 use Rattle.payroll_records.specs.declared.day.Day.{Day}
 use Rattle.payroll_records.specs.declared.record.Record.{Record}
 use Rattle.payroll_records.specs.declared.table.TableFault.{TableFault}
@@ -126,7 +126,7 @@ no_fault repeat names before row r h is new = new (subst (λ (s : Record). HasKe
 
 -- what is tried of a row, and the first of it that fails
 Passes : List Text → List Text → ℕ → Type 0
-Passes names row zero = IsWide names row
+Passes names row zero = FitsHeader names row
 Passes names row (suc zero) = HasEmployee row
 Passes names row (suc (suc zero)) = HasMonth row
 Passes names row (suc (suc (suc zero))) = HasDay row
@@ -151,19 +151,19 @@ module _ (names row : List Text) where
   to_0 : (j : ℕ) → j < 0 → P j
   to_0 j l = absurd (omega (arith, l))
 
-  to_1 : IsWide names row → (j : ℕ) → j < 1 → P j
+  to_1 : FitsHeader names row → (j : ℕ) → j < 1 → P j
   unfolding P Passes
   to_1 w = below_more P 0 to_0 w
 
-  to_2 : IsWide names row → HasEmployee row → (j : ℕ) → j < 2 → P j
+  to_2 : FitsHeader names row → HasEmployee row → (j : ℕ) → j < 2 → P j
   unfolding P Passes
   to_2 w e = below_more P 1 (to_1 w) e
 
-  to_3 : IsWide names row → HasEmployee row → HasMonth row → (j : ℕ) → j < 3 → P j
+  to_3 : FitsHeader names row → HasEmployee row → HasMonth row → (j : ℕ) → j < 3 → P j
   unfolding P Passes
   to_3 w e m = below_more P 2 (to_2 w e) m
 
-  to_4 : IsWide names row → HasEmployee row → HasDay row → (j : ℕ) → j < 4 → P j
+  to_4 : FitsHeader names row → HasEmployee row → HasDay row → (j : ℕ) → j < 4 → P j
   unfolding P Passes
   to_4 w e d = below_more P 3 (to_3 w e (month_of_day row d)) d
 

@@ -16,7 +16,7 @@ use Rattle.payroll_records.specs.CsvRows.{csv_rows}
 use Rattle.payroll_records.specs.Employees.{is_employee}
 use Rattle.payroll_records.specs.NamedValues.{name_cmp}
 use Rattle.payroll_records.specs.Limits.{longest_table, most_values}
-use Rattle.payroll_records.specs.Tables.{Text, name_at, field_of, cell_of, IsHeader, IsReadable, IsWide, HasEmployee, HasDay, IsRecordOf, key_of, AreRecordsOf, IsFirstFault, BreaksAt, TableSays}
+use Rattle.payroll_records.specs.Tables.{Text, name_at, field_of, cell_of, IsHeader, IsReadable, FitsHeader, HasEmployee, HasDay, IsRecordOf, key_of, AreRecordsOf, IsFirstFault, BreaksAt, TableSays}
 use Rattle.payroll_records.specs.private.TableViews.{AreColumns, IsColumnOf, column_name}
 use Rattle.payroll_records.specs.private.CellViews.{AreValuesOf}
 use Rattle.payroll_records.specs.declared.header.Column.{Column}
@@ -196,7 +196,7 @@ module _ (names : List Text) (columns : List Column) (are : AreColumns names col
       ]
 
   -- the record of a row without a fault
-  record_of : IsWide names row → HasEmployee row → HasDay row → ((i : ℕ) → i < length names → IsReadable (cell_of row i)) → (r : Record) × IsRecordOf names row r
+  record_of : FitsHeader names row → HasEmployee row → HasDay row → ((i : ℕ) → i < length names → IsReadable (cell_of row i)) → (r : Record) × IsRecordOf names row r
   unfolding ValuesUpTo
   record_of wide has_employee has_day readable =
       let all = values_up_to (length columns) (omega arith) in

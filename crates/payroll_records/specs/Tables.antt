@@ -55,8 +55,8 @@ pub record Supplies (names row : List Text) (v : NamedValue) : Type 0 where
   pub spelled : IsNumberText (cell_of row column) v.value
 
 -- the row has as many cells as the header
-abbrev pub IsWide : List Text → List Text → Type 0
-IsWide names row = length row ≡ 3 + length names
+abbrev pub FitsHeader : List Text → List Text → Type 0
+FitsHeader names row = length row ≡ 3 + length names
 
 -- the first cell of a row is an employee's text
 abbrev pub HasEmployee : List Text → Type 0
@@ -77,7 +77,7 @@ HasDay row = (year : ℕ) × (month : ℕ) × (day : ℕ) × HasDayOf row year m
 
 -- the record of a row
 pub record IsRecordOf (names row : List Text) (r : Record) : Type 0 where
-  pub wide : IsWide names row
+  pub wide : FitsHeader names row
   pub has_employee : HasEmployee row
   pub employee : r.employee ≡ field_of row 0
   pub day : HasDayOf row r.day.year r.day.month r.day.day
@@ -110,24 +110,24 @@ pub record IsTable (bytes : List ℕ) (records : List Record) : Type 0 where
 
 -- the row doesn't have as many cells as the header
 abbrev pub WrongWidth : List Text → List Text → Type 0
-WrongWidth names row = IsWide names row → ⊥
+WrongWidth names row = FitsHeader names row → ⊥
 
 -- the row has as many cells as the header, and its employee is wrong
 abbrev pub WrongEmployee : List Text → List Text → Type 0
-WrongEmployee names row = IsWide names row × (HasEmployee row → ⊥)
+WrongEmployee names row = FitsHeader names row × (HasEmployee row → ⊥)
 
 -- the row has as many cells as the header and a right employee, and its month is wrong
 abbrev pub WrongMonth : List Text → List Text → Type 0
-WrongMonth names row = IsWide names row × HasEmployee row × (HasMonth row → ⊥)
+WrongMonth names row = FitsHeader names row × HasEmployee row × (HasMonth row → ⊥)
 
 -- the row has as many cells as the header, a right employee and a right month, and its day is wrong or lies
 -- in another month
 abbrev pub WrongDay : List Text → List Text → Type 0
-WrongDay names row = IsWide names row × HasEmployee row × HasMonth row × (HasDay row → ⊥)
+WrongDay names row = FitsHeader names row × HasEmployee row × HasMonth row × (HasDay row → ⊥)
 
 -- the leftmost cell of values that isn't readable
 pub record WrongValue (name : Text) (names row : List Text) : Type 0 where
-  pub wide : IsWide names row
+  pub wide : FitsHeader names row
   pub employee : HasEmployee row
   pub day : HasDay row
   pub column : ℕ

@@ -8,8 +8,8 @@ use Rattle.plan_text.specs.Plans.{IsPlan}
 use Rattle.plan_text.proofs.Laws.{one_plan, never_both}
 use Rattle.pap_plan.specs.declared.refusal.PlanRefusal.{PlanRefusal}
 use Rattle.pap_plan.specs.declared.refusal.PlanRefusal.TheVariants as refusals
-use Rattle.pap_plan.specs.Acceptance.{Meaning, Answers, IsRefused, IsRefusedOrMemory}
-use Rattle.pap_plan.specs.AcceptanceClauses.{IsUnread}
+use Rattle.pap_plan.specs.Acceptance.{Meaning, AcceptanceSays, IsRefused, IsRefusedOrMemory}
+use Rattle.pap_plan.specs.AcceptanceClauses.{IsUnreadPlan}
 use Rattle.pap_plan.proofs.Laws as plans
 use Rattle.plan_answers.specs.Refusals.{read_detail, expr_detail, type_detail, order_detail, limits_detail, node_detail, HasDetail}
 use Rattle.plan_answers.specs.Refusals.{HasItsPlan}
@@ -55,7 +55,7 @@ its_plan plan limits (refusals.Range (walks.At place cause)) (f, (l, bound, walk
 its_plan plan limits _ h = tt
 
 -- a plan is read again, but for want of memory
-pub read_again : (plan : List ℕ) (f : Flowchart) (r : PlanRefusal) → IsPlan plan f → IsUnread plan r
+pub read_again : (plan : List ℕ) (f : Flowchart) (r : PlanRefusal) → IsPlan plan f → IsUnreadPlan plan r
     → r ≡ refusals.Memory
 read_again plan f (refusals.Read fault) is h = absurd (never_both plan f (texts.Read fault) is h)
 read_again plan f (refusals.Expr spot fault) is h = absurd (never_both plan f (texts.Expr spot fault) is h)
@@ -82,7 +82,7 @@ one_check plan limits a b h k =
 some_check : (plan limits : List ℕ) → (a : Answer) × CheckAnswers plan limits a
 some_check plan limits = let v = plans.some plan limits in by v.0 v.1
   where
-    by : (v : Result Meaning PlanRefusal) → Answers plan limits v → (a : Answer) × CheckAnswers plan limits a
+    by : (v : Result Meaning PlanRefusal) → AcceptanceSays plan limits v → (a : Answer) × CheckAnswers plan limits a
     by (Ok m) h = (acceptance m, record { verdict = Ok m; accepted = h; is = refl })
     by (Err r) h = let w = some_refusal plan limits r h in (w.0, record { verdict = Err r; accepted = h; is = w.1 })
 

@@ -18,7 +18,7 @@ use Rattle.plan_text.specs.declared.fault.PlanFault.TheVariants as texts
 use Rattle.plan_text.specs.Plans.{IsPlan, IsPlanFault}
 use Rattle.pap_plan.specs.declared.refusal.PlanRefusal.{PlanRefusal}
 use Rattle.pap_plan.specs.declared.refusal.PlanRefusal.TheVariants as refusals
-use Rattle.pap_plan.specs.Acceptance.{Meaning, Answers, IsAccepted, IsLimitsFault, IsRefused as IsRefusedPlan}
+use Rattle.pap_plan.specs.Acceptance.{Meaning, AcceptanceSays, IsAccepted, IsLimitsFault, IsRefused as IsRefusedPlan}
 use Rattle.plan_answers.specs.Refusals.{HasDetail}
 use Rattle.plan_answers.specs.Answers.{Answer, IsRefusal, IsChecked, CheckAnswers}
 use Rattle.outside.specs.Told.{FileMap, IsToldFront}
@@ -99,7 +99,7 @@ module _ (n m : ℕ) (more_plan : 1048576 < n) (more_limits : 262144 < m) where
   accepted_whole plan limits x h =
       (plan_whole plan x.flowchart h.bound.suited.named.file.ordered.typed.text, says_whole limits x.limits h.bound.suited.named.file.file)
 
-  pub answers_front : (plan limits : List ℕ) (a : Result Meaning PlanRefusal) → Answers (take n plan) (take m limits) a → Answers plan limits a
+  pub answers_front : (plan limits : List ℕ) (a : Result Meaning PlanRefusal) → AcceptanceSays (take n plan) (take m limits) a → AcceptanceSays plan limits a
   answers_front plan limits (Ok x) h =
       let whole = accepted_whole plan limits x h in
       moved (λ p l. IsAccepted p l x) plan limits whole.0 whole.1 h

@@ -2,7 +2,7 @@
 use Rattle.std.specs.Prelude.{◌≡◌, ℕ, List, ◌++◌, Bool, true, false, Result, Ok, Err}
 use Rattle.pap_types.specs.Meaning.{bound_of}
 use Rattle.pap_plan.specs.declared.refusal.PlanRefusal.{PlanRefusal}
-use Rattle.pap_plan.specs.Acceptance.{Meaning, Answers}
+use Rattle.pap_plan.specs.Acceptance.{Meaning, AcceptanceSays}
 use Rattle.plan_answers.specs.Lines.{bound_line, range_lines, refusal_line}
 use Rattle.plan_answers.specs.Refusals.{HasDetail}
 
@@ -40,5 +40,5 @@ IsChecked plan (Err r) answer = IsRefusal plan r answer
 -- the answer of `check` on two texts
 pub record CheckAnswers (plan limits : List ℕ) (answer : Answer) : Type 0 where
   pub verdict : Result Meaning PlanRefusal
-  pub accepted : Answers plan limits verdict
+  pub accepted : AcceptanceSays plan limits verdict
   pub is : IsChecked plan verdict answer

@@ -73,16 +73,16 @@ expr_detail spot exprs.Memory = []
 -- ---- its names and kinds, and the order of its methods
 
 -- a place as it is written: METHOD:STATEMENT:NODE
-abbrev pub text_of : Place → List ℕ
-text_of p = place_text p.method p.stmt p.node
+abbrev pub place_written : Place → List ℕ
+place_written p = place_text p.method p.stmt p.node
 
 -- what is written of a fault of names and kinds
 abbrev pub type_detail : TypeFault → List ℕ
 type_detail (types.Twice name) = codes "plan Twice " ++ name
-type_detail (types.Unknown name place) = codes "plan Unknown " ++ spaced name (text_of place)
-type_detail (types.Kind place) = codes "plan Kind " ++ text_of place
-type_detail (types.ConstantWritten place) = codes "plan ConstantWritten " ++ text_of place
-type_detail (types.NoMethod place) = codes "plan NoMethod " ++ text_of place
+type_detail (types.Unknown name place) = codes "plan Unknown " ++ spaced name (place_written place)
+type_detail (types.Kind place) = codes "plan Kind " ++ place_written place
+type_detail (types.ConstantWritten place) = codes "plan ConstantWritten " ++ place_written place
+type_detail (types.NoMethod place) = codes "plan NoMethod " ++ place_written place
 type_detail (types.Value name) = codes "plan Value " ++ name
 type_detail (types.Memory e) = []
 
@@ -128,7 +128,7 @@ spelling_at f p = option_map_or spelling (node_at f p) []
 -- why a node may fail, where it stands and how it is spelled: CAUSE PLACE EXPR
 abbrev pub node_detail : Flowchart → Place → RangeCause → List ℕ
 node_detail f place cause =
-    codes "plan " ++ spaced (cause_word cause) (spaced (text_of place) (spelling_at f place))
+    codes "plan " ++ spaced (cause_word cause) (spaced (place_written place) (spelling_at f place))
 
 -- ---- all refusals of a plan with its range file
 

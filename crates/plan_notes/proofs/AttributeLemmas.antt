@@ -10,9 +10,9 @@ use Rattle.pap_reader.specs.Bytes.{is_first, begins_with, drop_while}
 use Rattle.std.specs.Char.{is_ascii_alphabetic}
 use Rattle.std.specs.Str.{bytes_eq}
 use Rattle.pap_reader.specs.Values.{Quoted, closing_quote, byte, IsByte, NoByte, is_quote}
-use Rattle.pap_reader.specs.Tags.{Attribute, Tag, Front, IsFrontOf, IsAttribute, Ending, IsTag, opening, closing}
+use Rattle.pap_reader.specs.Tags.{Attribute, Tag, BeforeValue, IsFrontOf, IsAttribute, Ending, IsTag, opening, closing}
 use Rattle.pap_reader.specs.Skipped.{Past, here, NoPast}
-use Rattle.pap_reader.specs.Attributes.{value_of}
+use Rattle.pap_reader.specs.Attributes.{attribute_value}
 use Rattle.pap_reader.specs.private.Views.{is_code}
 use Rattle.pap_reader.proofs.Escapes.{found}
 use Rattle.pap_reader.proofs.Passing.{past_later, same_past}
@@ -89,16 +89,16 @@ quoted_past {q} {bytes} {value} {rest} h (byte {c} {next} (inr p) k) =
 -- what is left are these attributes, or nothing that begins with one
 abbrev pub IsRest : List ℕ → List Attribute → Type 0
 IsRest left attributes =
-    ((f : Form) × (rest : List ℕ) × Ending left f attributes rest) ⊎ ((attributes ≡ []) × (Front left → ⊥))
+    ((f : Form) × (rest : List ℕ) × Ending left f attributes rest) ⊎ ((attributes ≡ []) × (BeforeValue left → ⊥))
 
 -- no attribute of the name stands before what is left
 pub record Going (name first : List ℕ) (all : List Attribute) (left : List ℕ) : Type 0 where
   pub attributes : List Attribute
-  pub same : value_of name attributes ≡ value_of name all
+  pub same : attribute_value name attributes ≡ attribute_value name all
   pub lifts : (quote : ℕ) (text : List ℕ) → IsValueAt name left quote text → IsValueAt name first quote text
   pub rest : IsRest left attributes
 
-slash_no_front : (bytes : List ℕ) → Front (47 ∷ bytes) → ⊥
+slash_no_front : (bytes : List ℕ) → BeforeValue (47 ∷ bytes) → ⊥
 slash_no_front bytes f = false≢true f.apart
 
 pub going_start : {text rest : List ℕ} {t : Tag} (name : List ℕ) → IsTag text t rest
@@ -116,14 +116,14 @@ going_start name (closing {bytes} b e) = record {
   rest = inr (refl, slash_no_front bytes);
 }
 
-no_close : (left : List ℕ) (f : Form) (rest : List ℕ) → Front left → ClosesAs left f rest → ⊥
+no_close : (left : List ℕ) (f : Form) (rest : List ℕ) → BeforeValue left → ClosesAs left f rest → ⊥
 no_close left f rest front (inl e) =
     both_ways (begins_with is_first (drop_while is_white left)) (ap (begins_with is_first) e.1) front.named
 no_close left f rest front (inr e) =
     both_ways (begins_with is_first (drop_while is_white left)) (ap (begins_with is_first) e.1) front.named
 
 -- the first attribute, where what is left begins as one
-first_of_rest : (left : List ℕ) (attributes : List Attribute) → IsRest left attributes → Front left
+first_of_rest : (left : List ℕ) (attributes : List Attribute) → IsRest left attributes → BeforeValue left
     → (f : Form) × (rest : List ℕ) × FirstAttribute left f attributes rest
 first_of_rest left attributes (inl r) front = elim (unended r.2) [
   | inl e ↦ absurd (no_close left r.0 r.1 front e.1)
@@ -142,8 +142,8 @@ first_past left name text quote f attributes rest k front =
     (quoted_past k.first.front.quotes k.first.quoted))
 
 other_value : (name : List ℕ) (a : Attribute) (others : List Attribute) → bytes_eq a.name name ≡ false
-    → value_of name (a ∷ others) ≡ value_of name others
-other_value name a others e = ap (λ b. cond b (Some a.value) (value_of name others)) e
+    → attribute_value name (a ∷ others) ≡ attribute_value name others
+other_value name a others e = ap (λ b. cond b (Some a.value) (attribute_value name others)) e
 
 pub going_more : (name first : List ℕ) (all : List Attribute) (left other text next : List ℕ) (quote : ℕ)
     → Going name first all left
@@ -156,7 +156,7 @@ going_more name first all left other text next quote g front differs past =
     let named : bytes_eq a.a.name name ≡ false = ap (λ n. bytes_eq n name) (a.first.name ∙ sym front.1) ∙ differs in
     record {
       attributes = a.left;
-      same = sym (other_value name a.a a.left named) ∙ sym (ap (value_of name) a.is) ∙ g.same;
+      same = sym (other_value name a.a a.left named) ∙ sym (ap (attribute_value name) a.is) ∙ g.same;
       lifts = λ q t v. g.lifts q t (later a.a (subst (IsAttribute left a.a) same a.first) named v);
       rest = inl (k.0, k.1, subst (λ z. Ending z k.0 a.left k.1) same a.others);
     }
@@ -166,7 +166,7 @@ pub going_found : (name first : List ℕ) (all : List Attribute) (left other tex
     → IsFrontOf left other quote text → bytes_eq other name ≡ true → IsValueAt name first quote text
 going_found name first all left other text quote g front same = g.lifts quote text (values.here front same)
 
-none_left : (left : List ℕ) (attributes : List Attribute) → IsRest left attributes → (Front left → ⊥) → attributes
+none_left : (left : List ℕ) (attributes : List Attribute) → IsRest left attributes → (BeforeValue left → ⊥) → attributes
     ≡ []
 none_left left attributes (inl r) lacks = elim (unended r.2) [
   | inl e ↦ e.0
@@ -176,12 +176,12 @@ none_left left attributes (inr r) lacks = r.0
 
 -- where no attribute begins, none has the name
 pub going_none : (name first : List ℕ) (all : List Attribute) (left : List ℕ) → Going name first all left
-    → (Front left → ⊥) → value_of name all ≡ None
-going_none name first all left g lacks = sym g.same ∙ ap (value_of name) (none_left left g.attributes g.rest lacks)
+    → (BeforeValue left → ⊥) → attribute_value name all ≡ None
+going_none name first all left g lacks = sym g.same ∙ ap (attribute_value name) (none_left left g.attributes g.rest lacks)
 
 pub going_open : (name first : List ℕ) (all : List Attribute) (left other text : List ℕ) (quote : ℕ)
     → Going name first all left
-    → IsFrontOf left other quote text → NoPast (quote ∷ []) text → value_of name all ≡ None
+    → IsFrontOf left other quote text → NoPast (quote ∷ []) text → attribute_value name all ≡ None
 going_open name first all left other text quote g front lacks =
     let k = first_of_rest left g.attributes g.rest front.0 in
     absurd (lacks k.2.next (first_past left other text quote k.0 g.attributes k.1 k.2 front))

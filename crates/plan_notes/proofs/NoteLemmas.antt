@@ -17,9 +17,9 @@ use Rattle.plan_notes.specs.declared.tag.Mark.{Mark}
 use Rattle.plan_notes.specs.Edges.{edges_by}
 use Rattle.plan_notes.specs.Marks.{edge_of, HaveInTurn}
 use Rattle.plan_notes.specs.Walks.{comments_at}
-use Rattle.plan_notes.specs.Contents.{Token, remark, tagged, IsComment, IsToken, Tells, nothing, white, token, HasTokens, Item, line, place, items_by, items_of, root_by, root_of}
+use Rattle.plan_notes.specs.Contents.{Token, remark, tagged, IsComment, IsToken, Tells, nothing, white, token, HasTokens, NoteItem, line, place, items_by, items_told, root_by, root_of}
 use Rattle.plan_notes.specs.private.Contents.{comment_with}
-use Rattle.plan_notes.specs.Notes.{lines_of, items_at, noted, SaysOfRoot, HasNotes}
+use Rattle.plan_notes.specs.Notes.{comment_items, items_at, noted, SaysOfRoot, HasNotes}
 use Rattle.plan_notes.specs.private.ScanViews.{AreKept, Stops, SameRoot, KeepsPassed, KeepsRootBy, TellsMore, HasTold}
 use Rattle.plan_notes.proofs.EdgeLemmas.{ended}
 
@@ -49,14 +49,14 @@ same_items : (from : ℕ) (marks : List Mark) (to : ℕ) (comments more : List (
 same_items from [] to comments more turn within = refl
 same_items from (m ∷ marks) to comments more turn within =
     let up = in_turn_up m.last marks to turn.1.1 in
-    ap (λ c. (lines_of c ++ (place (edge_of m) ∷ [])) ++ flat_map (items_at (comments ++ more)) marks)
+    ap (λ c. (comment_items c ++ (place (edge_of m) ∷ [])) ++ flat_map (items_at (comments ++ more)) marks)
     (same_comments comments more m turn.1.0 (omega (arith, up, within)))
     ∙ ap (λ z. items_at comments m ++ z) (same_items m.last marks to comments more turn.1.1 within)
 
 -- ---- what the notes hold, with one thing more
 
-abbrev pub items_in : List Mark → List (String Global) → ℕ → List Item
-items_in marks comments behind = flat_map (items_at comments) marks ++ lines_of (drop behind comments)
+abbrev pub items_in : List Mark → List (String Global) → ℕ → List NoteItem
+items_in marks comments behind = flat_map (items_at comments) marks ++ comment_items (drop behind comments)
 
 pub noted_is : (notes : Notes) (behind : ℕ) → noted notes behind
     ≡ items_in notes.marks.items notes.comments.items behind
@@ -74,40 +74,40 @@ noted_same old new first next m c e =
 
 items_comment : (marks : List Mark) (comments more : List (String Global)) (first : ℕ) → HaveInTurn 0 marks first
     → first ≤ length comments
-    → items_in marks (comments ++ more) first ≡ items_in marks comments first ++ lines_of more
+    → items_in marks (comments ++ more) first ≡ items_in marks comments first ++ comment_items more
 items_comment marks comments more first turn within =
-    ap (λ z. z ++ lines_of (drop first (comments ++ more))) (same_items 0 marks first comments more turn within)
-    ∙ ap (λ z. flat_map (items_at comments) marks ++ lines_of z) (drop-append-le first comments more within)
+    ap (λ z. z ++ comment_items (drop first (comments ++ more))) (same_items 0 marks first comments more turn within)
+    ∙ ap (λ z. flat_map (items_at comments) marks ++ comment_items z) (drop-append-le first comments more within)
     ∙ ap (λ z. flat_map (items_at comments) marks ++ z)
     (map-append (λ comment. line (string_bytes comment)) (drop first comments) more)
-    ∙ sym (append_assoc (flat_map (items_at comments) marks) (lines_of (drop first comments)) (lines_of more))
+    ∙ sym (append_assoc (flat_map (items_at comments) marks) (comment_items (drop first comments)) (comment_items more))
 
 -- comments more
 noted_comment : (old new : Notes) (first next : ℕ) (more : List (String Global)) → HaveInTurn 0 old.marks.items first
     → first ≤ length old.comments.items
     → new.marks.items ≡ old.marks.items → new.comments.items ≡ old.comments.items ++ more → next ≡ first
-    → noted new next ≡ noted old first ++ lines_of more
+    → noted new next ≡ noted old first ++ comment_items more
 noted_comment old new first next more turn within m c e =
     noted_is new next ∙ ap (λ ms. items_in ms new.comments.items next) m
     ∙ ap (λ cs. items_in old.marks.items cs next) c
     ∙ ap (items_in old.marks.items (old.comments.items ++ more)) e
     ∙ items_comment old.marks.items old.comments.items more first turn within
-    ∙ ap (λ z. z ++ lines_of more) (sym (noted_is old first))
+    ∙ ap (λ z. z ++ comment_items more) (sym (noted_is old first))
 
 items_mark : (marks : List Mark) (comments : List (String Global)) (m : Mark) → m.last ≡ length comments
     → items_in (marks ++ m ∷ []) comments m.last ≡ items_in marks comments m.first ++ place (edge_of m) ∷ []
 items_mark marks comments m e =
-    let front : List Item = flat_map (items_at comments) marks in
+    let front : List NoteItem = flat_map (items_at comments) marks in
     let shown : comments_at comments m ≡ drop m.first comments =
     comments_are comments m (omega (arith, e)) ∙ ap (λ n. take (n - m.first) (drop m.first comments)) e
     ∙ take_rest comments m.first in
-    ap (λ z. flat_map (items_at comments) (marks ++ m ∷ []) ++ lines_of z)
+    ap (λ z. flat_map (items_at comments) (marks ++ m ∷ []) ++ comment_items z)
     (drop_all m.last comments (omega (arith, e)))
     ∙ append-nil (flat_map (items_at comments) (marks ++ m ∷ []))
     ∙ flat_map-append (items_at comments) marks (m ∷ [])
     ∙ ap (λ z. front ++ z) (append-nil (items_at comments m))
-    ∙ ap (λ z. front ++ (lines_of z ++ place (edge_of m) ∷ [])) shown
-    ∙ sym (append_assoc front (lines_of (drop m.first comments)) (place (edge_of m) ∷ []))
+    ∙ ap (λ z. front ++ (comment_items z ++ place (edge_of m) ∷ [])) shown
+    ∙ sym (append_assoc front (comment_items (drop m.first comments)) (place (edge_of m) ∷ []))
 
 -- one mark more, with the comments behind the others'
 pub noted_mark : (old new : Notes) (m : Mark) → m.last ≡ length old.comments.items
@@ -279,7 +279,7 @@ told_more file left rest old new first next at h e (inr t) =
       tokens = h.tokens ++ (t.token ∷ []);
       read = with_more file left rest h.tokens (t.token ∷ []) h.read (token t.token is nothing);
       told = t.told ∙ ap (λ z. z ++ items_by t.token) h.told
-          ∙ ap (λ z. items_of h.tokens ++ z) (sym (append-nil (items_by t.token)))
+          ∙ ap (λ z. items_told h.tokens ++ z) (sym (append-nil (items_by t.token)))
           ∙ sym (flat_map-append items_by h.tokens (t.token ∷ []));
       root = subst (SaysOfRoot new) (sym (fold_push root_by [] h.tokens t.token)) (t.root (root_of h.tokens) h.root);
     }

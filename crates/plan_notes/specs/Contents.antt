@@ -42,18 +42,18 @@ pub record HasTokens (file : List ℕ) (ts : List Token) (rest : List ℕ) : Typ
 -- ---- what is told of it
 
 -- a comment in one line, or where an element begins or ends
-pub data Item : Type 0 where
-  line : List ℕ → Item
-  place : Edge → Item
+pub data NoteItem : Type 0 where
+  line : List ℕ → NoteItem
+  place : Edge → NoteItem
 
 -- what is told of a token: a comment that isn't blank, or the places at the marks of a tag
-abbrev pub items_by : Token → List Item
+abbrev pub items_by : Token → List NoteItem
 items_by (remark inside) = map line (filter is_some_text (line_text inside ∷ []))
 items_by (tagged t) = map place (edges_by t.at (marks_of t.tag))
 
 -- what is told of some tokens, in their order
-abbrev pub items_of : List Token → List Item
-items_of ts = flat_map items_by ts
+abbrev pub items_told : List Token → List NoteItem
+items_told ts = flat_map items_by ts
 
 -- the attributes with which a PAP begins at the mark, or else those before
 abbrev pub root_at : List Attribute → Mark → List Attribute

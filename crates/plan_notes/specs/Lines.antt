@@ -15,9 +15,9 @@ is_some_text [] = false
 is_some_text (c ∷ cs) = true
 
 -- the words of characters, with a space between two of them
-abbrev pub spaced : List ℕ → List ℕ
-spaced cs = join_with_byte 0x20 (filter is_some_text (slice_split is_blank cs))
+abbrev pub spaced_words : List ℕ → List ℕ
+spaced_words cs = join_with_byte 0x20 (filter is_some_text (slice_split is_blank cs))
 
 -- bytes in one line: their words with a space between two of them, and U+FFFD for bytes that aren't UTF-8
 abbrev pub line_text : List ℕ → List ℕ
-line_text bytes = encode_utf8_all (spaced (chars (utf8_lossy bytes)))
+line_text bytes = encode_utf8_all (spaced_words (chars (utf8_lossy bytes)))

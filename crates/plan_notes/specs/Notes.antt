@@ -4,31 +4,31 @@ use Rattle.std.specs.declared.alloc.Global.{Global}
 use Rattle.std.specs.List.{flat_map}
 use Rattle.pap_reader.specs.Tags.{Attribute}
 use Rattle.pap_reader.specs.Tokens.{IsAlien}
-use Rattle.pap_reader.specs.Attributes.{value_of}
+use Rattle.pap_reader.specs.Attributes.{attribute_value}
 use Rattle.plan_notes.specs.declared.tag.Mark.{Mark}
 use Rattle.plan_notes.specs.declared.notes.Notes.{Notes}
 use Rattle.plan_notes.specs.Lines.{line_text}
 use Rattle.plan_notes.specs.Marks.{edge_of, HaveInTurn}
 use Rattle.plan_notes.specs.Walks.{comments_at}
-use Rattle.plan_notes.specs.Contents.{Token, HasTokens, Item, line, place, items_of, root_of}
+use Rattle.plan_notes.specs.Contents.{Token, HasTokens, NoteItem, line, place, items_told, root_of}
 
 -- comments as what is told of a file
-abbrev pub lines_of : List (String Global) → List Item
-lines_of comments = map (λ comment. line (string_bytes comment)) comments
+abbrev pub comment_items : List (String Global) → List NoteItem
+comment_items comments = map (λ comment. line (string_bytes comment)) comments
 
 -- a mark's comments, and then its place
-abbrev pub items_at : List (String Global) → Mark → List Item
-items_at comments mark = lines_of (comments_at comments mark) ++ (place (edge_of mark) ∷ [])
+abbrev pub items_at : List (String Global) → Mark → List NoteItem
+items_at comments mark = comment_items (comments_at comments mark) ++ (place (edge_of mark) ∷ [])
 
 -- what the notes hold, in their order: the comments of each mark before its place, and then those from a number on
-unfoldable pub noted : Notes → ℕ → List Item
+unfoldable pub noted : Notes → ℕ → List NoteItem
 noted notes behind =
-    flat_map (items_at notes.comments.items) notes.marks.items ++ lines_of (drop behind notes.comments.items)
+    flat_map (items_at notes.comments.items) notes.marks.items ++ comment_items (drop behind notes.comments.items)
 
 -- The root's name and version are those of these attributes, each in one line.
 pub record SaysOfRoot (notes : Notes) (attributes : List Attribute) : Type 0 where
-  pub name : option_map (λ text. string_bytes text) notes.name ≡ option_map line_text (value_of (codes "name") attributes)
-  pub version : option_map (λ text. string_bytes text) notes.version ≡ option_map line_text (value_of (codes "version") attributes)
+  pub name : option_map (λ text. string_bytes text) notes.name ≡ option_map line_text (attribute_value (codes "name") attributes)
+  pub version : option_map (λ text. string_bytes text) notes.version ≡ option_map line_text (attribute_value (codes "version") attributes)
 
 -- The notes hold the comments of the file that aren't blank, and the places where elements begin and end, in its order, up to
 -- its end or to a place where no token begins: each comment before the first place behind it, or behind the last.
@@ -40,5 +40,5 @@ pub record HasNotes (file : List ℕ) (notes : Notes) : Type 0 where
   pub behind : ℕ
   pub in_turn : HaveInTurn 0 notes.marks.items behind
   pub within : behind ≤ vec_len notes.comments
-  pub items : noted notes behind ≡ items_of tokens
+  pub items : noted notes behind ≡ items_told tokens
   pub root : SaysOfRoot notes (root_of tokens)

@@ -9,6 +9,6 @@ behind_byte b [] = []
 behind_byte b (c ∷ cs) = if c == b then cs else c ∷ cs
 
 -- the letters behind `<` or `</`; none where no `<` comes first
-abbrev pub name_at : List ℕ → List ℕ
-name_at [] = []
-name_at (c ∷ cs) = if c == 60 then take_while is_ascii_alphabetic (behind_byte 47 cs) else []
+abbrev pub tag_name_at : List ℕ → List ℕ
+tag_name_at [] = []
+tag_name_at (c ∷ cs) = if c == 60 then take_while is_ascii_alphabetic (behind_byte 47 cs) else []

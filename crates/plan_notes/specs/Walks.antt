@@ -58,6 +58,6 @@ comments_of notes None = []
 comments_of notes (Some mark) = comments_at notes.comments.items mark
 
 -- the mark that is the next begins an element that is looked for
-abbrev pub begins_with : Starts → List Mark → Bool
-begins_with starts [] = false
-begins_with starts (mark ∷ marks) = is_start starts mark
+abbrev pub begins_wanted : Starts → List Mark → Bool
+begins_wanted starts [] = false
+begins_wanted starts (mark ∷ marks) = is_start starts mark

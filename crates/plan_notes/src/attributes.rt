@@ -3,7 +3,7 @@ ghost use Rattle.std.specs.Prelude.{◌≡◌, ◌≤◌, ℕ, List, length, dro
 ghost use Rattle.pap_reader.specs.Bytes.{drop_while};
 ghost use Rattle.std.specs.Char.{is_ascii_alphabetic};
 ghost use Rattle.pap_reader.specs.Tags.{Tag, IsTag};
-ghost use Rattle.pap_reader.specs.Attributes.{value_of};
+ghost use Rattle.pap_reader.specs.Attributes.{attribute_value};
 ghost use Rattle.plan_notes.specs.AttributeBytes.{IsValueAt, IsBehind, IsAttributeByte};
 
 use pap_reader::{ValueFront, past_mark, read_byte, read_value_front, split_letters};
@@ -13,7 +13,7 @@ use pap_reader::{ValueFront, past_mark, read_byte, read_value_front, split_lette
 /// such attribute. Where no tag begins at the place, any byte or none is given.
 pub fn attribute_byte(file: &[u8], tag: usize, name: &[u8], number: usize) -> Option<usize>
     ensures { (t : Tag) (rest : List ℕ) → IsTag (drop tag file.now) t rest
-        → MatchOption result (value_of name.now t.attributes ≡ None)
+        → MatchOption result (attribute_value name.now t.attributes ≡ None)
         (IsAttributeByte file.now tag name.now number) }
 {
     let front = front_of(file.get(tag..)?, name)?;
@@ -25,7 +25,7 @@ pub fn attribute_byte(file: &[u8], tag: usize, name: &[u8], number: usize) -> Op
 /// has no such attribute.
 fn front_of<'a>(text: &'a [u8], name: &[u8]) -> Option<ValueFront<'a>>
     ensures value { (t : Tag) (rest : List ℕ) → IsTag text.entry.now t rest
-        → MatchOption result (value_of name.now t.attributes ≡ None)
+        → MatchOption result (attribute_value name.now t.attributes ≡ None)
         (λ front. IsValueAt name.now (drop_while is_ascii_alphabetic (drop 1 text.entry.now))
         front.quote front.text.now) }
     ensures within { IfSome result (λ front. length front.text.now ≤ length text.entry.now) }

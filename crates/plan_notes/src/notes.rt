@@ -1,6 +1,6 @@
 //! The tags and comments that are found, and a walk along the tags.
 ghost use Rattle.std.specs.Prelude.{◌≡◌, ◌+◌, drop, slice_get, find, option_map};
-ghost use Rattle.plan_notes.specs.Walks.{notes_of, marks_left, is_start, start_byte, behind_start, behind_starts, comments_at, comments_of, begins_with};
+ghost use Rattle.plan_notes.specs.Walks.{notes_of, marks_left, is_start, start_byte, behind_start, behind_starts, comments_at, comments_of, begins_wanted};
 
 use crate::tag::{Mark, Starts};
 use pap_reader::Element;
@@ -98,7 +98,7 @@ impl<'a> Walk<'a> {
 
     /// Whether the next tag is a start tag of an element.
     pub fn is_at(&self, element: Element) -> bool
-        ensures { result ≡ begins_with (Starts.Of element) (marks_left self.now) }
+        ensures { result ≡ begins_wanted (Starts.Of element) (marks_left self.now) }
     {
         match self.left.split_first() {
             Some((mark, _)) => Starts::Of(element).has(mark),

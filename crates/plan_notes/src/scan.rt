@@ -3,7 +3,7 @@ ghost use Rattle.std.specs.Prelude.{◌≡◌, ℕ, ◌+◌, ◌<◌, ◌≤◌,
 ghost use Rattle.std.specs.List.Sorted.{IsNonDecreasingBy};
 ghost use Rattle.pap_reader.specs.Tags.{tag_of, attributes_of};
 ghost use Rattle.pap_reader.specs.Marks.{marks_of};
-ghost use Rattle.pap_reader.specs.Attributes.{value_of};
+ghost use Rattle.pap_reader.specs.Attributes.{attribute_value};
 ghost use Rattle.plan_notes.specs.Lines.{line_text};
 ghost use Rattle.plan_notes.specs.Edges.{HasEdges, edge, edges_by};
 ghost use Rattle.plan_notes.specs.Marks.{edge_of, HaveComments};
@@ -203,7 +203,8 @@ fn inside_comment(passed: &[u8]) -> Option<&[u8]>
 /// The value of an attribute of a tag, in one line. `None` where the tag has no such attribute.
 fn line_of(alloc: Global, tag: &Tag<'_>, name: &[u8]) -> Result<Option<String>, AllocError>
     ensures { IfOk result (λ line. option_map (λ text. string_bytes text) line
-        ≡ option_map line_text (value_of name.now (attributes_of tag.now.attributes.items))) }
+        ≡ option_map line_text
+        (attribute_value name.now (attributes_of tag.now.attributes.items))) }
 {
     match value_of(&tag.attributes, name) {
         Some(value) => Ok(Some(one_line(alloc, value)?)),

@@ -1,7 +1,7 @@
 //! The tags of a plan's file.
 ghost use Rattle.std.specs.Prelude.{◌≡◌, ℕ, List};
 ghost use Rattle.plan_notes.specs.Edges.{Edge, HasEdges};
-ghost use Rattle.plan_notes.specs.TagNames.{name_at};
+ghost use Rattle.plan_notes.specs.TagNames.{tag_name_at};
 ghost use Rattle.plan_notes.specs.Walks.{is_start};
 
 use pap_reader::{Element, split_letters};
@@ -48,7 +48,7 @@ impl Starts {
 /// The letters behind the `<` or `</` with which a text begins; of a tag, the name of its element. Nothing where a text begins
 /// with neither.
 pub fn element_name(text: &[u8]) -> &[u8]
-    ensures { result.now ≡ name_at text.now }
+    ensures { result.now ≡ tag_name_at text.now }
 {
     match text.strip_prefix(b"<") {
         Some(inner) => split_letters(inner.strip_prefix(b"/").unwrap_or(inner)).0,

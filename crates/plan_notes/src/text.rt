@@ -1,7 +1,7 @@
 //! Texts of a file in one line.
 ghost use Rattle.std.specs.Prelude.{◌≡◌, ◌++◌, IfOk, OnOk, string_bytes, encode_utf8, encode_utf8_all};
 ghost use Rattle.std.specs.Str.{chars};
-ghost use Rattle.plan_notes.specs.Lines.{is_blank, spaced, line_text};
+ghost use Rattle.plan_notes.specs.Lines.{is_blank, spaced_words, line_text};
 ghost use Rattle.plan_notes.specs.private.LineViews.{gap_text};
 
 use std::alloc::{AllocError, Global};
@@ -18,7 +18,7 @@ pub fn one_line(alloc: Global, bytes: &[u8]) -> Result<String, AllocError>
 /// The words of a text, with a space between two of them.
 fn spaced(alloc: Global, text: &str) -> Result<String, AllocError>
     ensures { IfOk result (λ line.
-        string_bytes line ≡ encode_utf8_all (spaced (chars text.now))) }
+        string_bytes line ≡ encode_utf8_all (spaced_words (chars text.now))) }
 {
     let mut line = String::new(alloc);
     let mut is_gap = false;

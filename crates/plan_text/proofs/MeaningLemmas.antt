@@ -3,12 +3,12 @@ use Rattle.std.proofs.Common.{◌≡◌, ℕ, List, refl}
 use Rattle.std.specs.Prelude.{⊤}
 use Rattle.pap_tree.specs.Term.{Term}
 use Rattle.pap_tree.specs.Declarations.{DeclaredLiteral}
-use Rattle.pap_tree.specs.Grammar.{Item, Line, Level, Signed, Rounding, Assignment, Constant, Big, Bigs, Meaning, tree, assignment, declared, Way}
+use Rattle.pap_tree.specs.Grammar.{Item, Line, Level, Signed, Rounding, Assignment, Constant, Big, Bigs, LineMeaning, tree, assignment, declared, Way}
 use Rattle.pap_tree.specs.Grammar as ways
 use Rattle.pap_tree.specs.Tokens.{Token}
-use Rattle.pap_tree.specs.Texts.{Text, by}
+use Rattle.pap_tree.specs.Texts.{Derives, by}
 
-abbrev pub Suits : Line → Meaning → Type 0
+abbrev pub Suits : Line → LineMeaning → Type 0
 Suits (Level n) x = (t : Term) × (x ≡ tree t)
 Suits Assignment x = (name : List ℕ) × (e : Term) × (x ≡ assignment name e)
 Suits Constant x = (d : DeclaredLiteral) × (x ≡ declared d)
@@ -17,7 +17,7 @@ Suits Rounding x = ⊤
 Suits Big x = ⊤
 Suits Bigs x = ⊤
 
-of_way : (l : Line) (way : List Item) (x : Meaning) → Way l way x → Suits l x
+of_way : (l : Line) (way : List Item) (x : LineMeaning) → Way l way x → Suits l x
 of_way l way x (ways.choose c a b) = (_, refl)
 of_way l way x (ways.tighter n t less) = (_, refl)
 of_way l way x (ways.operation n o a b e) = (_, refl)
@@ -43,5 +43,5 @@ of_way l way x (ways.number_constant f a) = (_, refl)
 of_way l way x (ways.table_constant ds) = (_, refl)
 of_way l way x w = tt
 
-pub of_text : (l : Line) (ts : List Token) (x : Meaning) → Text l ts x → Suits l x
+pub of_text : (l : Line) (ts : List Token) (x : LineMeaning) → Derives l ts x → Suits l x
 of_text l ts x (by way w inside) = of_way l way x w

@@ -5,12 +5,12 @@ use Rattle.std.proofs.lemmas.List.Elements.{All-nil, All-cons, All-head, All-tai
 use Rattle.pap_tree.specs.declared.declaration.Kind.{Kind}
 use Rattle.pap_tree.specs.Term.{Term}
 use Rattle.pap_tree.specs.Declarations.{Declaration, DeclaredLiteral}
-use Rattle.pap_tree.specs.Grammar.{Line, Level, Assignment, Constant, Meaning, tree, assignment, declared}
+use Rattle.pap_tree.specs.Grammar.{Line, Level, Assignment, Constant, LineMeaning, tree, assignment, declared}
 use Rattle.pap_tree.specs.Expressions.{IsAccepted, IsWrong}
 use Rattle.pap_tree.specs.Stopping.{Cause, syntax, unsupported, binary_fraction, number, deep}
 use Rattle.pap_tree.specs.Tokens.{plain}
 use Rattle.pap_tree.specs.Flowchart.{Body, done, eval, branch, execute, Routine, Flowchart}
-use Rattle.expr_grammar.specs.Lines.{IsWhole, a_test, an_assignment, a_constant}
+use Rattle.expr_grammar.specs.Lines.{IsWholeLine, a_test, an_assignment, a_constant}
 use Rattle.expr_grammar.proofs.Laws as grammar
 use Rattle.expr_tokens.proofs.Laws.{one_reading, always_read}
 use Rattle.pap_expr.specs.declared.fault.ExprFault.{ExprFault}
@@ -26,9 +26,9 @@ use Rattle.plan_text.specs.declared.fault.Spot.TheVariants.{Statement, Declared}
 use Rattle.plan_text.specs.declared.fault.PlanFault.{PlanFault}
 use Rattle.plan_text.specs.declared.fault.PlanFault.TheVariants as faults
 use Rattle.plan_text.specs.ExprFaults.{IsExprFault}
-use Rattle.plan_text.specs.Sites.{Site, site, literal_sites, declared_sites, body_sites, routine_sites, sites_of, IsReadable, IsFirstFault}
+use Rattle.plan_text.specs.Sites.{Site, text_site, literal_sites, declared_sites, body_sites, routine_sites, sites_of, IsReadable, IsFirstFault}
 use Rattle.pap_tree.specs.Names.{main_name}
-use Rattle.plan_text.specs.Plans.{IsValue, IsDeclaration, AreDeclarations, IsBody, AreRoutines, HasFlowchart, IsPlan, IsPlanFault}
+use Rattle.plan_text.specs.Plans.{IsLiteralText, IsDeclaration, AreDeclarations, IsBody, AreRoutines, HasFlowchart, IsPlan, IsPlanFault}
 use Rattle.plan_text.proofs.MeaningLemmas.{of_text}
 use Rattle.plan_text.proofs.ReadLemmas.{declared_readable, body_readable, routines_readable}
 
@@ -44,7 +44,7 @@ All-back P (x ∷ xs) ys h = All-back P xs ys (All-tail P x (xs ++ ys) h)
 
 -- ---- one expression's text
 
-one_text : (bytes : List ℕ) (l : Line) → IsWhole l → (x y : Meaning) → IsAccepted l bytes x → IsAccepted l bytes y → x ≡ y
+one_text : (bytes : List ℕ) (l : Line) → IsWholeLine l → (x y : LineMeaning) → IsAccepted l bytes x → IsAccepted l bytes y → x ≡ y
 one_text bytes l w x y h k =
     grammar.one_text (one_reading 0) l w bytes x y (record { spots = h.spots; tokens = h.tokens; text = h.text }) (record { spots = k.spots; tokens = k.tokens; text = k.text })
 
@@ -87,32 +87,32 @@ is_fault l text binary_fraction at h = h
 is_fault l text number at h = h
 is_fault l text deep at h = h
 
-one_expr_fault : (l : Line) (text : List ℕ) → IsWhole l → (f g : ExprFault) → IsExprFault l text f → IsExprFault l text g → f ≡ g
+one_expr_fault : (l : Line) (text : List ℕ) → IsWholeLine l → (f g : ExprFault) → IsExprFault l text f → IsExprFault l text g → f ≡ g
 one_expr_fault l text w f g h k =
     let a = is_wrong l text f h in
     let b = is_wrong l text g k in
     let e = grammar.one_wrong (one_reading 0) l w text (cause_of f) (cause_of g) (place_of f) (place_of g) a.0 b.0 in
     sym a.1 ∙ ap (λ c. fault_of c (place_of f)) e.0 ∙ ap (fault_of (cause_of g)) e.1 ∙ b.1
 
-never_wrong : (l : Line) (text : List ℕ) → IsWhole l → (x : Meaning) (f : ExprFault) → IsAccepted l text x → IsExprFault l text f → ⊥
+never_wrong : (l : Line) (text : List ℕ) → IsWholeLine l → (x : LineMeaning) (f : ExprFault) → IsAccepted l text x → IsExprFault l text f → ⊥
 never_wrong l text w x f h k = let a = is_wrong l text f k in grammar.accepted_or_wrong (one_reading 0) l w text x (cause_of f) (place_of f) h a.0
 
 -- ---- the first fault of some texts
 
 -- each text is read by a line that stands alone
 abbrev AreWhole : List Site → Type 0
-AreWhole sites = All (λ s. IsWhole s.line) sites
+AreWhole sites = All (λ s. IsWholeLine s.line) sites
 
-readable_or_not : (s : Site) → IsWhole s.line → IsReadable s ⊎ ((f : ExprFault) × IsExprFault s.line s.text f)
+readable_or_not : (s : Site) → IsWholeLine s.line → IsReadable s ⊎ ((f : ExprFault) × IsExprFault s.line s.text f)
 readable_or_not s w = by_answer (grammar.always_said (λ bytes. always_read 0 bytes) s.line w s.text)
   where
-    by_answer : ((x : Meaning) × IsAccepted s.line s.text x) ⊎ ((c : Cause) × (at : ℕ) × IsWrong s.line s.text c at) → IsReadable s ⊎ ((f : ExprFault) × IsExprFault s.line s.text f)
+    by_answer : ((x : LineMeaning) × IsAccepted s.line s.text x) ⊎ ((c : Cause) × (at : ℕ) × IsWrong s.line s.text c at) → IsReadable s ⊎ ((f : ExprFault) × IsExprFault s.line s.text f)
     by_answer (inl h) = inl h
     by_answer (inr h) = inr (fault_of h.0 h.1, is_fault s.line s.text h.0 h.1 h.2)
 
 first_or_none : (sites : List Site) → AreWhole sites → All IsReadable sites ⊎ ((spot : Spot) × (f : ExprFault) × IsFirstFault sites spot f)
 first_or_none [] w = inl (All-nil IsReadable)
-first_or_none (s ∷ sites) w = by_first (readable_or_not s (All-head (λ t. IsWhole t.line) s sites w)) (first_or_none sites (All-tail (λ t. IsWhole t.line) s sites w))
+first_or_none (s ∷ sites) w = by_first (readable_or_not s (All-head (λ t. IsWholeLine t.line) s sites w)) (first_or_none sites (All-tail (λ t. IsWholeLine t.line) s sites w))
   where
     by_first : IsReadable s ⊎ ((f : ExprFault) × IsExprFault s.line s.text f) → All IsReadable sites ⊎ ((spot : Spot) × (f : ExprFault) × IsFirstFault sites spot f)
         → All IsReadable (s ∷ sites) ⊎ ((spot : Spot) × (f : ExprFault) × IsFirstFault (s ∷ sites) spot f)
@@ -128,7 +128,7 @@ heads s t p q e = cc
 tails : (s t : Site) (p q : List Site) → s ∷ p ≡ t ∷ q → p ≡ q
 tails s t p q e = cc
 
-not_readable : (s t : Site) (g : ExprFault) → s ≡ t → IsWhole s.line → IsReadable s → IsExprFault t.line t.text g → ⊥
+not_readable : (s t : Site) (g : ExprFault) → s ≡ t → IsWholeLine s.line → IsReadable s → IsExprFault t.line t.text g → ⊥
 not_readable s t g e w r k = never_wrong s.line s.text w r.0 g r.1 (subst (λ x. IsExprFault x.line x.text g) (sym e) k)
 
 -- of two ways to split texts before their first fault, both stop at the same
@@ -137,18 +137,18 @@ same_stop : (a b p q : List Site) (s t : Site) (f g : ExprFault) → a ++ (s ∷
 same_stop [] [] p q s t f g e w ra rb h k = heads s t p q e
 same_stop [] (y ∷ b) p q s t f g e w ra rb h k =
     let same = heads s y p (b ++ (t ∷ q)) e in
-    absurd (not_readable y s f (sym same) (subst (λ x. IsWhole x.line) same (All-head (λ x. IsWhole x.line) s p w)) (All-head IsReadable y b rb) h)
+    absurd (not_readable y s f (sym same) (subst (λ x. IsWholeLine x.line) same (All-head (λ x. IsWholeLine x.line) s p w)) (All-head IsReadable y b rb) h)
 same_stop (x ∷ a) [] p q s t f g e w ra rb h k =
     let same = heads x t (a ++ (s ∷ p)) q e in
-    absurd (not_readable x t g same (All-head (λ y. IsWhole y.line) x (a ++ (s ∷ p)) w) (All-head IsReadable x a ra) k)
+    absurd (not_readable x t g same (All-head (λ y. IsWholeLine y.line) x (a ++ (s ∷ p)) w) (All-head IsReadable x a ra) k)
 same_stop (x ∷ a) (y ∷ b) p q s t f g e w ra rb h k =
-    same_stop a b p q s t f g (tails x y (a ++ (s ∷ p)) (b ++ (t ∷ q)) e) (All-tail (λ z. IsWhole z.line) x (a ++ (s ∷ p)) w) (All-tail IsReadable x a ra) (All-tail IsReadable y b rb) h k
+    same_stop a b p q s t f g (tails x y (a ++ (s ∷ p)) (b ++ (t ∷ q)) e) (All-tail (λ z. IsWholeLine z.line) x (a ++ (s ∷ p)) w) (All-tail IsReadable x a ra) (All-tail IsReadable y b rb) h k
 
 one_first : (sites : List Site) → AreWhole sites → (u v : Spot) (f g : ExprFault) → IsFirstFault sites u f → IsFirstFault sites v g → (u ≡ v) × (f ≡ g)
 one_first sites w u v f g h k =
     let whole = subst AreWhole h.whole w in
     let same = same_stop h.before k.before h.after k.after h.stop k.stop f g (sym h.whole ∙ k.whole) whole h.read k.read h.fails k.fails in
-    let line = All-head (λ x. IsWhole x.line) h.stop h.after (All-back (λ x. IsWhole x.line) h.before (h.stop ∷ h.after) whole) in (
+    let line = All-head (λ x. IsWholeLine x.line) h.stop h.after (All-back (λ x. IsWholeLine x.line) h.before (h.stop ∷ h.after) whole) in (
       h.there ∙ ap (λ s. s.spot) same ∙ sym k.there,
       one_expr_fault h.stop.line h.stop.text line f g h.fails (subst (λ x. IsExprFault x.line x.text g) (sym same) k.fails),
     )
@@ -156,7 +156,7 @@ one_first sites w u v f g h k =
 never_first : (sites : List Site) → AreWhole sites → All IsReadable sites → (u : Spot) (f : ExprFault) → IsFirstFault sites u f → ⊥
 never_first sites w r u f h =
     let whole = subst AreWhole h.whole w in
-    let line = All-head (λ x. IsWhole x.line) h.stop h.after (All-back (λ x. IsWhole x.line) h.before (h.stop ∷ h.after) whole) in
+    let line = All-head (λ x. IsWholeLine x.line) h.stop h.after (All-back (λ x. IsWholeLine x.line) h.before (h.stop ∷ h.after) whole) in
     let read = All-head IsReadable h.stop h.after (All-back IsReadable h.before (h.stop ∷ h.after) (subst (All IsReadable) h.whole r)) in
     not_readable h.stop h.stop f refl line read h.fails
 
@@ -167,29 +167,29 @@ whole_append xs ys h k = all_append xs h
   where
     all_append : (zs : List Site) → AreWhole zs → AreWhole (zs ++ ys)
     all_append [] r = k
-    all_append (z ∷ zs) r = All-cons (λ x. IsWhole x.line) z (zs ++ ys) (All-head (λ x. IsWhole x.line) z zs r) (all_append zs (All-tail (λ x. IsWhole x.line) z zs r))
+    all_append (z ∷ zs) r = All-cons (λ x. IsWholeLine x.line) z (zs ++ ys) (All-head (λ x. IsWholeLine x.line) z zs r) (all_append zs (All-tail (λ x. IsWholeLine x.line) z zs r))
 
 value_whole : (name : List ℕ) (kind : Kind) (v : Option (List ℕ)) → AreWhole (literal_sites (record { name = name; kind = kind; value = v }))
-value_whole name kind None = All-nil (λ x. IsWhole x.line)
-value_whole name kind (Some text) = All-cons (λ x. IsWhole x.line) (site Constant text (Declared name)) [] a_constant (All-nil (λ x. IsWhole x.line))
+value_whole name kind None = All-nil (λ x. IsWholeLine x.line)
+value_whole name kind (Some text) = All-cons (λ x. IsWholeLine x.line) (text_site Constant text (Declared name)) [] a_constant (All-nil (λ x. IsWholeLine x.line))
 
 declared_whole : (ds : List RawDeclaration) → AreWhole (declared_sites ds)
-declared_whole [] = All-nil (λ x. IsWhole x.line)
+declared_whole [] = All-nil (λ x. IsWholeLine x.line)
 declared_whole (d ∷ ds) = whole_append (literal_sites d) (declared_sites ds) (value_whole d.name d.kind d.value) (declared_whole ds)
 
 body_whole : (m : List ℕ) (at : ℕ) (b : RawBody) → AreWhole (body_sites m at b)
-body_whole m at raw.done = All-nil (λ x. IsWhole x.line)
-body_whole m at (raw.eval text rest) = All-cons (λ x. IsWhole x.line) (site Assignment text (Statement m at)) (body_sites m (at + 1) rest) an_assignment (body_whole m (at + 1) rest)
+body_whole m at raw.done = All-nil (λ x. IsWholeLine x.line)
+body_whole m at (raw.eval text rest) = All-cons (λ x. IsWholeLine x.line) (text_site Assignment text (Statement m at)) (body_sites m (at + 1) rest) an_assignment (body_whole m (at + 1) rest)
 body_whole m at (raw.branch text a b rest) =
     let n = at + 1 + raw_written a in
     let k = at + 1 + raw_written a + raw_written b in
-    All-cons (λ x. IsWhole x.line) (site (Level 0) text (Statement m at)) (body_sites m (at + 1) a ++ (body_sites m n b ++ body_sites m k rest)) a_test
+    All-cons (λ x. IsWholeLine x.line) (text_site (Level 0) text (Statement m at)) (body_sites m (at + 1) a ++ (body_sites m n b ++ body_sites m k rest)) a_test
     (whole_append (body_sites m (at + 1) a) (body_sites m n b ++ body_sites m k rest) (body_whole m (at + 1) a)
     (whole_append (body_sites m n b) (body_sites m k rest) (body_whole m n b) (body_whole m k rest)))
 body_whole m at (raw.execute x rest) = body_whole m (at + 1) rest
 
 routines_whole : (ms : List RawRoutine) → AreWhole (routine_sites ms)
-routines_whole [] = All-nil (λ x. IsWhole x.line)
+routines_whole [] = All-nil (λ x. IsWholeLine x.line)
 routines_whole (m ∷ ms) = whole_append (body_sites m.name 0 m.body) (routine_sites ms) (body_whole m.name 0 m.body) (routines_whole ms)
 
 sites_whole : (x : ElementTree) → AreWhole (sites_of x)
@@ -226,7 +226,7 @@ target_same x y s t h = cc
 expression_same : (x y : List ℕ) (s t : Term) → assignment x s ≡ assignment y t → s ≡ t
 expression_same x y s t h = cc
 
-values_same : (v : Option (List ℕ)) (l k : Option DeclaredLiteral) → IsValue v l → IsValue v k → l ≡ k
+values_same : (v : Option (List ℕ)) (l k : Option DeclaredLiteral) → IsLiteralText v l → IsLiteralText v k → l ≡ k
 values_same None None None h e = refl
 values_same None None (Some k) h e = absurd e
 values_same None (Some l) k h e = absurd h
@@ -315,10 +315,10 @@ flowchart_same x f g h k =
 
 -- ---- a flowchart where all texts are readable
 
-value_made : (name : List ℕ) (kind : Kind) (v : Option (List ℕ)) → All IsReadable (literal_sites (record { name = name; kind = kind; value = v })) → (l : Option DeclaredLiteral) × IsValue v l
+value_made : (name : List ℕ) (kind : Kind) (v : Option (List ℕ)) → All IsReadable (literal_sites (record { name = name; kind = kind; value = v })) → (l : Option DeclaredLiteral) × IsLiteralText v l
 value_made name kind None r = (None, tt)
 value_made name kind (Some text) r =
-    let h = All-head IsReadable (site Constant text (Declared name)) [] r in
+    let h = All-head IsReadable (text_site Constant text (Declared name)) [] r in
     let s = of_text Constant (plain h.1.spots) h.0 h.1.text in
     (Some s.0, subst (IsAccepted Constant text) s.1 h.1)
 
@@ -333,7 +333,7 @@ declarations_made (d ∷ rs) r =
 body_made : (m : List ℕ) (at : ℕ) (b : RawBody) → All IsReadable (body_sites m at b) → (c : Body) × IsBody b c
 body_made m at raw.done r = (done, tt)
 body_made m at (raw.eval text rest) r =
-    let own = site Assignment text (Statement m at) in
+    let own = text_site Assignment text (Statement m at) in
     let h = All-head IsReadable own (body_sites m (at + 1) rest) r in
     let s = of_text Assignment (plain h.1.spots) h.0 h.1.text in
     let k = body_made m (at + 1) rest (All-tail IsReadable own (body_sites m (at + 1) rest) r) in
@@ -341,7 +341,7 @@ body_made m at (raw.eval text rest) r =
 body_made m at (raw.branch text a b rest) r =
     let n = at + 1 + raw_written a in
     let j = at + 1 + raw_written a + raw_written b in
-    let own = site (Level 0) text (Statement m at) in
+    let own = text_site (Level 0) text (Statement m at) in
     let behind = body_sites m (at + 1) a ++ (body_sites m n b ++ body_sites m j rest) in
     let h = All-head IsReadable own behind r in
     let s = of_text (Level 0) (plain h.1.spots) h.0 h.1.text in

@@ -12,7 +12,7 @@ use Rattle.plan_text.specs.declared.fault.Spot.{Spot}
 use Rattle.plan_text.specs.declared.fault.PlanFault.{PlanFault}
 use Rattle.plan_text.specs.declared.fault.PlanFault.TheVariants as faults
 use Rattle.plan_text.specs.ExprFaults.{IsExprFault}
-use Rattle.plan_text.specs.Sites.{Site, site, IsReadable, IsFirstFault}
+use Rattle.plan_text.specs.Sites.{Site, text_site, IsReadable, IsFirstFault}
 use Rattle.plan_text.specs.private.Views.{TellsFault, Tells, fault_at}
 
 -- a fault among the first texts
@@ -64,12 +64,12 @@ first_of s f h = record {
   there = refl;
 }
 
-pub of_text : (l : Line) (text : List ℕ) (spot : Spot) (f : ExprFault) → IsFaultOf l text f → TellsFault (site l text spot ∷ []) (fault_at spot f)
-of_text l text spot (exprs.Syntax at) h = first_of (site l text spot) (exprs.Syntax at) h
-of_text l text spot (exprs.Unsupported at) h = first_of (site l text spot) (exprs.Unsupported at) h
-of_text l text spot (exprs.BinaryFraction at) h = first_of (site l text spot) (exprs.BinaryFraction at) h
-of_text l text spot (exprs.Number at) h = first_of (site l text spot) (exprs.Number at) h
-of_text l text spot (exprs.Deep at) h = first_of (site l text spot) (exprs.Deep at) h
+pub of_text : (l : Line) (text : List ℕ) (spot : Spot) (f : ExprFault) → IsFaultOf l text f → TellsFault (text_site l text spot ∷ []) (fault_at spot f)
+of_text l text spot (exprs.Syntax at) h = first_of (text_site l text spot) (exprs.Syntax at) h
+of_text l text spot (exprs.Unsupported at) h = first_of (text_site l text spot) (exprs.Unsupported at) h
+of_text l text spot (exprs.BinaryFraction at) h = first_of (text_site l text spot) (exprs.BinaryFraction at) h
+of_text l text spot (exprs.Number at) h = first_of (text_site l text spot) (exprs.Number at) h
+of_text l text spot (exprs.Deep at) h = first_of (text_site l text spot) (exprs.Deep at) h
 of_text l text spot exprs.Memory h = tt
 
 -- what a `?` passes on

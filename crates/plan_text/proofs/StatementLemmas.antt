@@ -18,7 +18,7 @@ use Rattle.pap_reader.specs.TreeLimits.{raw_written}
 use Rattle.pap_reader.proofs.Laws.{raw_stmt_then-If}
 use Rattle.plan_text.specs.declared.fault.PlanFault.{PlanFault}
 use Rattle.plan_text.specs.declared.fault.Spot.TheVariants.{Statement}
-use Rattle.plan_text.specs.Sites.{site, body_sites, IsReadable}
+use Rattle.plan_text.specs.Sites.{text_site, body_sites, IsReadable}
 use Rattle.plan_text.specs.Plans.{IsBody}
 use Rattle.plan_text.specs.private.Views.{Tells, TellsFault, TellsStatement, IsStatement, IsTest, IsAssignment}
 use Rattle.plan_text.proofs.SiteLemmas.{earlier, later, behind_one}
@@ -28,22 +28,22 @@ use Rattle.plan_text.proofs.ReadLemmas.{body_readable}
 
 pub eval_is : (m : List ℕ) (at next : ℕ) (text : Vec ℕ Global) (s : Stmt) → next ≡ at + 1 → IsAssignment text.items s → IsStatement m at next (raws.Eval text) s
 eval_is m at next text s e h =
-    let own : IsReadable (site Assignment text.items (Statement m at)) = (assignment h.target (term_of h.value), h.accepted) in
+    let own : IsReadable (text_site Assignment text.items (Statement m at)) = (assignment h.target (term_of h.value), h.accepted) in
     record {
       is = λ rest more k. subst (λ t. IsBody (eval text.items rest) (stmt_then t more)) (sym h.is) (h.accepted, k);
-      later = λ rest f k. behind_one (site Assignment text.items (Statement m at)) (body_sites m (at + 1) rest) f own (subst (λ n. TellsFault (body_sites m n rest) f) e k);
+      later = λ rest f k. behind_one (text_site Assignment text.items (Statement m at)) (body_sites m (at + 1) rest) f own (subst (λ n. TellsFault (body_sites m n rest) f) e k);
       counted = λ rest. omega (arith, e);
     }
 
-pub eval_fails : (m : List ℕ) (at : ℕ) (text : Vec ℕ Global) (f : PlanFault) → TellsFault (site Assignment text.items (Statement m at) ∷ []) f
+pub eval_fails : (m : List ℕ) (at : ℕ) (text : Vec ℕ Global) (f : PlanFault) → TellsFault (text_site Assignment text.items (Statement m at) ∷ []) f
     → (rest : RawBody) → TellsFault (body_sites m at (raw_stmt_then (raws.Eval text) rest)) f
-eval_fails m at text f h rest = earlier (site Assignment text.items (Statement m at) ∷ []) (body_sites m (at + 1) rest) f h
+eval_fails m at text f h rest = earlier (text_site Assignment text.items (Statement m at) ∷ []) (body_sites m (at + 1) rest) f h
 
 -- ---- a branch: its test, its first list and its second
 
 branch_sites : (m : List ℕ) (at : ℕ) (text : Vec ℕ Global) (ys zs : Vec RawStmt Global) (rest : RawBody) →
     body_sites m at (raw_stmt_then (raws.If text ys zs) rest)
-    ≡ site (Level 0) text.items (Statement m at)
+    ≡ text_site (Level 0) text.items (Statement m at)
     ∷ (body_sites m (at + 1) (raw_body_of ys.items)
     ++ (body_sites m (at + 1 + raw_written (raw_body_of ys.items)) (raw_body_of zs.items)
     ++ body_sites m (at + 1 + raw_written (raw_body_of ys.items) + raw_written (raw_body_of zs.items)) rest))
@@ -56,7 +56,7 @@ pub branch_is : (m : List ℕ) (at next : ℕ) (text : Vec ℕ Global) (ys zs : 
 branch_is m at next text ys zs t us vs e test first second =
     let a = raw_body_of ys.items in
     let b = raw_body_of zs.items in
-    let own : IsReadable (site (Level 0) text.items (Statement m at)) = (tree (term_of t), test) in
+    let own : IsReadable (text_site (Level 0) text.items (Statement m at)) = (tree (term_of t), test) in
     record {
       is = λ rest more k.
           subst (λ r. IsBody r (stmt_then (stmts.If t us vs) more)) (sym (raw_stmt_then-If text ys zs rest))
@@ -66,17 +66,17 @@ branch_is m at next text ys zs t us vs e test first second =
           let in_second = later (body_sites m (at + 1 + raw_written a) b) (body_sites m (at + 1 + raw_written a + raw_written b) rest) f (body_readable m (at + 1 + raw_written a) b (body_of vs.items) second) at_rest in
           let in_first = later (body_sites m (at + 1) a) (body_sites m (at + 1 + raw_written a) b ++ body_sites m (at + 1 + raw_written a + raw_written b) rest) f (body_readable m (at + 1) a (body_of us.items) first) in_second in
           subst (λ l. TellsFault l f) (sym (branch_sites m at text ys zs rest))
-          (behind_one (site (Level 0) text.items (Statement m at)) (body_sites m (at + 1) a ++ (body_sites m (at + 1 + raw_written a) b ++ body_sites m (at + 1 + raw_written a + raw_written b) rest)) f own in_first);
+          (behind_one (text_site (Level 0) text.items (Statement m at)) (body_sites m (at + 1) a ++ (body_sites m (at + 1 + raw_written a) b ++ body_sites m (at + 1 + raw_written a + raw_written b) rest)) f own in_first);
       counted = λ rest. omega (arith, e, ap raw_written (raw_stmt_then-If text ys zs rest));
     }
 
-pub test_fails : (m : List ℕ) (at : ℕ) (text : Vec ℕ Global) (ys zs : Vec RawStmt Global) (f : PlanFault) → TellsFault (site (Level 0) text.items (Statement m at) ∷ []) f
+pub test_fails : (m : List ℕ) (at : ℕ) (text : Vec ℕ Global) (ys zs : Vec RawStmt Global) (f : PlanFault) → TellsFault (text_site (Level 0) text.items (Statement m at) ∷ []) f
     → (rest : RawBody) → TellsFault (body_sites m at (raw_stmt_then (raws.If text ys zs) rest)) f
 test_fails m at text ys zs f h rest =
     let a = raw_body_of ys.items in
     let b = raw_body_of zs.items in
     subst (λ l. TellsFault l f) (sym (branch_sites m at text ys zs rest))
-    (earlier (site (Level 0) text.items (Statement m at) ∷ []) (body_sites m (at + 1) a ++ (body_sites m (at + 1 + raw_written a) b ++ body_sites m (at + 1 + raw_written a + raw_written b) rest)) f h)
+    (earlier (text_site (Level 0) text.items (Statement m at) ∷ []) (body_sites m (at + 1) a ++ (body_sites m (at + 1 + raw_written a) b ++ body_sites m (at + 1 + raw_written a + raw_written b) rest)) f h)
 
 pub first_fails : (m : List ℕ) (at : ℕ) (text : Vec ℕ Global) (ys zs : Vec RawStmt Global) (t : Expr) (f : PlanFault)
     → IsTest text.items t → TellsFault (body_sites m (at + 1) (raw_body_of ys.items)) f
@@ -85,7 +85,7 @@ first_fails m at text ys zs t f test h rest =
     let a = raw_body_of ys.items in
     let b = raw_body_of zs.items in
     subst (λ l. TellsFault l f) (sym (branch_sites m at text ys zs rest))
-    (behind_one (site (Level 0) text.items (Statement m at)) (body_sites m (at + 1) a ++ (body_sites m (at + 1 + raw_written a) b ++ body_sites m (at + 1 + raw_written a + raw_written b) rest)) f (tree (term_of t), test)
+    (behind_one (text_site (Level 0) text.items (Statement m at)) (body_sites m (at + 1) a ++ (body_sites m (at + 1 + raw_written a) b ++ body_sites m (at + 1 + raw_written a + raw_written b) rest)) f (tree (term_of t), test)
     (earlier (body_sites m (at + 1) a) (body_sites m (at + 1 + raw_written a) b ++ body_sites m (at + 1 + raw_written a + raw_written b) rest) f h))
 
 pub second_fails : (m : List ℕ) (at : ℕ) (text : Vec ℕ Global) (ys zs : Vec RawStmt Global) (t : Expr) (us : Vec Stmt Global) (f : PlanFault)
@@ -97,7 +97,7 @@ second_fails m at text ys zs t us f test first h rest =
     let b = raw_body_of zs.items in
     let back = body_sites m (at + 1 + raw_written a + raw_written b) rest in
     subst (λ l. TellsFault l f) (sym (branch_sites m at text ys zs rest))
-    (behind_one (site (Level 0) text.items (Statement m at)) (body_sites m (at + 1) a ++ (body_sites m (at + 1 + raw_written a) b ++ back)) f (tree (term_of t), test)
+    (behind_one (text_site (Level 0) text.items (Statement m at)) (body_sites m (at + 1) a ++ (body_sites m (at + 1 + raw_written a) b ++ back)) f (tree (term_of t), test)
     (later (body_sites m (at + 1) a) (body_sites m (at + 1 + raw_written a) b ++ back) f (body_readable m (at + 1) a (body_of us.items) first)
     (earlier (body_sites m (at + 1 + raw_written a) b) back f h)))
 
@@ -169,11 +169,11 @@ raw_stmt_at ss i s is lt = rw add-one (raw_at-suc ss i s lt ∙ ap (λ x. raw_st
 -- ---- an IF of the code, by the texts and lists that the code has
 
 pub if_test_fails : (m : List ℕ) (at : ℕ) (raw : RawStmt) (text : Vec ℕ Global) (ys zs : Vec RawStmt Global) (t : List ℕ) (f : PlanFault)
-    → raw ≡ raws.If text ys zs → t ≡ text.items → TellsFault (site (Level 0) t (Statement m at) ∷ []) f
+    → raw ≡ raws.If text ys zs → t ≡ text.items → TellsFault (text_site (Level 0) t (Statement m at) ∷ []) f
     → (rest : RawBody) → TellsFault (body_sites m at (raw_stmt_then raw rest)) f
 if_test_fails m at raw text ys zs t f is et h rest =
     subst (λ r. TellsFault (body_sites m at (raw_stmt_then r rest)) f) (sym is)
-    (test_fails m at text ys zs f (subst (λ x. TellsFault (site (Level 0) x (Statement m at) ∷ []) f) et h) rest)
+    (test_fails m at text ys zs f (subst (λ x. TellsFault (text_site (Level 0) x (Statement m at) ∷ []) f) et h) rest)
 
 pub if_first_fails : (m n : List ℕ) (at k : ℕ) (raw : RawStmt) (text : Vec ℕ Global) (ys zs : Vec RawStmt Global) (t : List ℕ) (e : Expr) (a : List RawStmt) (f : PlanFault)
     → raw ≡ raws.If text ys zs → t ≡ text.items → a ≡ ys.items → n ≡ m → k ≡ at + 1
@@ -208,12 +208,12 @@ if_is m at next raw text ys zs t e a b us vs is et ea eb en test first second =
 
 -- what an EVAL's text tells is what the statement tells
 pub eval_tells : (m : List ℕ) (at next : ℕ) (raw : RawStmt) (text : Vec ℕ Global) (t : List ℕ) (r : Result Stmt PlanFault)
-    → raw ≡ raws.Eval text → t ≡ text.items → next ≡ at + 1 → Tells (site Assignment t (Statement m at) ∷ []) (IsAssignment t) r → TellsStatement m at next raw r
+    → raw ≡ raws.Eval text → t ≡ text.items → next ≡ at + 1 → Tells (text_site Assignment t (Statement m at) ∷ []) (IsAssignment t) r → TellsStatement m at next raw r
 eval_tells m at next raw text t (Ok s) is et en h =
     subst (λ x. IsStatement m at next x s) (sym is) (eval_is m at next text s en (subst (λ x. IsAssignment x s) et h))
 eval_tells m at next raw text t (Err f) is et en h =
     λ rest. subst (λ x. TellsFault (body_sites m at (raw_stmt_then x rest)) f) (sym is)
-    (eval_fails m at text f (subst (λ x. TellsFault (site Assignment x (Statement m at) ∷ []) f) et h) rest)
+    (eval_fails m at text f (subst (λ x. TellsFault (text_site Assignment x (Statement m at) ∷ []) f) et h) rest)
 
 pub statement_fails : (m : List ℕ) (at next : ℕ) (raw : RawStmt) (r : Result Stmt PlanFault) (f : PlanFault)
     → ((rest : RawBody) → TellsFault (body_sites m at (raw_stmt_then raw rest)) f) → IsErrAnd r (λ e. e ≡ f) → TellsStatement m at next raw r

@@ -12,16 +12,16 @@ use Rattle.plan_text.specs.declared.fault.PlanFault.TheVariants as faults
 use Rattle.plan_text.specs.Sites.{sites_of, IsFirstFault}
 
 -- the text of a literal, where one is written
-abbrev pub IsValue : Option (List ℕ) → Option DeclaredLiteral → Type 0
-IsValue None None = ⊤
-IsValue (Some text) (Some l) = IsAccepted Constant text (declared l)
-IsValue _ _ = ⊥
+abbrev pub IsLiteralText : Option (List ℕ) → Option DeclaredLiteral → Type 0
+IsLiteralText None None = ⊤
+IsLiteralText (Some text) (Some l) = IsAccepted Constant text (declared l)
+IsLiteralText _ _ = ⊥
 
 -- the declaration that is written, its literal read
 pub record IsDeclaration (raw : RawDeclaration) (d : Declaration) : Type 0 where
   pub name : d.name ≡ raw.name
   pub kind : d.kind ≡ raw.kind
-  pub value : IsValue raw.value d.value
+  pub value : IsLiteralText raw.value d.value
 
 -- the declarations are those that are written, one by one, with their literals read
 abbrev pub AreDeclarations : List RawDeclaration → List Declaration → Type 0

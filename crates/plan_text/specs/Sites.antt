@@ -2,7 +2,7 @@
 -- and constants, then the expressions of MAIN's statements and of the methods', and the first that isn't one.
 use Rattle.std.specs.Prelude.{◌≡◌, ℕ, ◌+◌, List, [], ◌∷◌, ◌++◌, All}
 use Rattle.std.specs.Option.{option_map_or}
-use Rattle.pap_tree.specs.Grammar.{Line, Level, Assignment, Constant, Meaning}
+use Rattle.pap_tree.specs.Grammar.{Line, Level, Assignment, Constant, LineMeaning}
 use Rattle.pap_tree.specs.Expressions.{IsAccepted}
 use Rattle.pap_tree.specs.Names.{main_name}
 use Rattle.pap_expr.specs.declared.fault.ExprFault.{ExprFault}
@@ -18,13 +18,13 @@ pub record Site : Type 0 where
   pub text : List ℕ
   pub spot : Spot
 
--- the site of a line, a text and a spot
-abbrev pub site : Line → List ℕ → Spot → Site
-site line text spot = record { line = line; text = text; spot = spot }
+-- the text_site of a line, a text and a spot
+abbrev pub text_site : Line → List ℕ → Spot → Site
+text_site line text spot = record { line = line; text = text; spot = spot }
 
 -- the literal of a declaration, where one is written
 abbrev pub literal_sites : RawDeclaration → List Site
-literal_sites d = option_map_or (λ text. site Constant text (Declared d.name) ∷ []) d.value []
+literal_sites d = option_map_or (λ text. text_site Constant text (Declared d.name) ∷ []) d.value []
 
 -- the sites of some declarations' literals, in their order
 abbrev pub declared_sites : List RawDeclaration → List Site
@@ -36,9 +36,9 @@ module _ (method : List ℕ) where
   -- the sites of statements that are numbered from `at`
   abbrev pub body_sites : ℕ → RawBody → List Site
   body_sites at done = []
-  body_sites at (eval text rest) = site Assignment text (Statement method at) ∷ body_sites (at + 1) rest
+  body_sites at (eval text rest) = text_site Assignment text (Statement method at) ∷ body_sites (at + 1) rest
   body_sites at (branch text a b rest) =
-      site (Level 0) text (Statement method at)
+      text_site (Level 0) text (Statement method at)
       ∷ (body_sites (at + 1) a
       ++ (body_sites (at + 1 + raw_written a) b ++ body_sites (at + 1 + raw_written a + raw_written b) rest))
   body_sites at (execute m rest) = body_sites (at + 1) rest
@@ -58,7 +58,7 @@ sites_of x =
 
 -- the site's text is an expression of its line
 abbrev pub IsReadable : Site → Type 0
-IsReadable s = (x : Meaning) × IsAccepted s.line s.text x
+IsReadable s = (x : LineMeaning) × IsAccepted s.line s.text x
 
 -- all texts before one are expressions, and that one has the fault
 pub record IsFirstFault (sites : List Site) (spot : Spot) (fault : ExprFault) : Type 0 where

@@ -3,7 +3,7 @@ ghost use Rattle.std.specs.Prelude.{map};
 ghost use Rattle.std.specs.Option.{option_map};
 ghost use Rattle.pap_tree.specs.Declarations.{declared_of, declaration_of};
 ghost use Rattle.pap_reader.specs.Trees.{raw_declaration_of};
-ghost use Rattle.plan_text.specs.Plans.{IsValue, IsDeclaration, AreDeclarations};
+ghost use Rattle.plan_text.specs.Plans.{IsLiteralText, IsDeclaration, AreDeclarations};
 ghost use Rattle.plan_text.specs.Sites.{declared_sites, literal_sites};
 ghost use Rattle.plan_text.specs.private.Views.{Tells};
 
@@ -45,7 +45,8 @@ fn read_declaration(alloc: Global, raw: &RawDeclared) -> Result<Declared, PlanFa
 /// The literal of a declared name, where one is written.
 fn read_value(alloc: Global, raw: &RawDeclared) -> Result<Option<Literal>, PlanFault>
     ensures { Tells (literal_sites (raw_declaration_of raw.now))
-        (λ read. IsValue (raw_declaration_of raw.now).value (option_map declared_of read)) result }
+        (λ read. IsLiteralText (raw_declaration_of raw.now).value
+        (option_map declared_of read)) result }
 {
     match &raw.value {
         None => Ok(None),

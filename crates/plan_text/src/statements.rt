@@ -5,7 +5,7 @@ ghost use Rattle.pap_reader.specs.Trees.{done, raw_body_of, raw_stmt_then, raw_r
 ghost use Rattle.pap_reader.specs.TreeLimits.{raw_written, methods_written};
 ghost use Rattle.pap_tree.specs.Grammar.{Level, Assignment};
 ghost use Rattle.plan_text.specs.Plans.{IsBody, AreRoutines};
-ghost use Rattle.plan_text.specs.Sites.{site, body_sites, routine_sites};
+ghost use Rattle.plan_text.specs.Sites.{text_site, body_sites, routine_sites};
 ghost use Rattle.plan_text.specs.private.Views.{Tells, TellsStatement, IsAssignment, IsTest};
 ghost use Rattle.plan_text.specs.declared.fault.Spot.TheVariants.{Statement};
 
@@ -83,7 +83,7 @@ impl StatementReader {
     fn read_eval(&mut self, text: &[u8]) -> Result<Stmt, PlanFault>
         requires { self.old.next + 1 < 2 ^ 32 }
         ensures says { Tells
-            (site Assignment text.now (Statement self.old.method self.old.next) ∷ [])
+            (text_site Assignment text.now (Statement self.old.method self.old.next) ∷ [])
             (IsAssignment text.now) result }
         ensures next { self.new.next ≡ self.old.next + 1 }
         ensures method { self.new.method ≡ self.old.method }
@@ -99,7 +99,7 @@ impl StatementReader {
     fn read_test(&mut self, text: &[u8]) -> Result<Expr, PlanFault>
         requires { self.old.next + 1 < 2 ^ 32 }
         ensures says { Tells
-            (site (Level 0) text.now (Statement self.old.method self.old.next) ∷ [])
+            (text_site (Level 0) text.now (Statement self.old.method self.old.next) ∷ [])
             (IsTest text.now) result }
         ensures next { self.new.next ≡ self.old.next + 1 }
         ensures method { self.new.method ≡ self.old.method }

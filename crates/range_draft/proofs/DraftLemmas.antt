@@ -25,26 +25,26 @@ use Rattle.plan_notes.specs.declared.notes.Notes.{Notes}
 use Rattle.plan_notes.specs.declared.notes.Walk.{Walk}
 use Rattle.plan_notes.specs.Walks.{notes_of, marks_left, is_start, behind_start, behind_starts, comments_of}
 use Rattle.plan_notes.proofs.Laws.{comments_found}
-use Rattle.range_draft.specs.Bounds.{least, greatest, advice}
-use Rattle.range_draft.specs.Draft.{head, table, shown_char, front, comment_line, comment_lines, longest_comment, input_comments, entry_of, declares, none, again, entry, IsDraft}
+use Rattle.range_draft.specs.Bounds.{least_of_kind, greatest_of_kind, advice}
+use Rattle.range_draft.specs.Draft.{head, table, comment_char, front, comment_line, comment_lines, longest_comment, input_comments, entry_of, declares, none, again, entry, IsDraft}
 use Rattle.range_draft.specs.private.DraftViews.{texts_of}
 
 -- ---- a line
 
 -- what is left of a comment, as it is shown
 abbrev pub left_front : ℕ → List ℕ → List ℕ
-left_front room rest = front room (map shown_char (chars rest))
+left_front room rest = front room (map comment_char (chars rest))
 
 -- a character that has room
 pub front_more : (old whole text new rest more : List ℕ) (c shown room less : ℕ) → IsUtf8 rest
     → rest ≡ encode_utf8 c ++ more → 4 ≤ room → text ++ left_front room rest ≡ old ++ whole
-    → shown ≡ shown_char c → new ≡ text ++ encode_utf8 shown → less ≡ room - len_utf8 shown
+    → shown ≡ comment_char c → new ≡ text ++ encode_utf8 shown → less ≡ room - len_utf8 shown
     → new ++ left_front less more ≡ old ++ whole
 front_more old whole text new rest more c shown room less utf8 is some so_far show pushed rest_room =
-    let one = encode_utf8 (shown_char c) in
+    let one = encode_utf8 (comment_char c) in
     let left = left_front (room - length one) more in
     let step : left_front room rest ≡ one ++ left =
-    ap (λ cs. front room (map shown_char cs)) (chars_past_char rest more c utf8 is)
+    ap (λ cs. front room (map comment_char cs)) (chars_past_char rest more c utf8 is)
     ∙ ap (λ b. cond b (codes "..") (one ++ left)) (le-ltb room 4 some) in
     let less_is : less ≡ room - length one =
     rest_room ∙ ap (λ n. room - n) (sym (length-encode shown) ∙ ap (λ n. length (encode_utf8 n)) show) in
@@ -57,9 +57,9 @@ pub front_end : (old whole text new rest more : List ℕ) (c room : ℕ) → IsU
     → room < 4 → text ++ left_front room rest ≡ old ++ whole → new ≡ text ++ codes ".."
     → new ≡ old ++ whole
 front_end old whole text new rest more c room utf8 is full so_far pushed =
-    let one = encode_utf8 (shown_char c) in
+    let one = encode_utf8 (comment_char c) in
     let step : left_front room rest ≡ codes ".." =
-    ap (λ cs. front room (map shown_char cs)) (chars_past_char rest more c utf8 is)
+    ap (λ cs. front room (map comment_char cs)) (chars_past_char rest more c utf8 is)
     ∙ ap (λ b. cond b (codes "..") (one ++ left_front (room - length one) more)) (lt-ltb room 4 full) in
     pushed ∙ sym (ap (λ z. text ++ z) step) ∙ so_far
 
@@ -89,11 +89,11 @@ line_end = refl
 -- ---- the lines of comments
 
 pub comment_written : (old sign text new comment : List ℕ) (room : ℕ) → 0 < room → sign ≡ old ++ codes "# "
-    → text ≡ sign ++ front room (map shown_char (chars comment)) → new ≡ text ++ encode_utf8 10
+    → text ≡ sign ++ front room (map comment_char (chars comment)) → new ≡ text ++ encode_utf8 10
     → new ≡ old ++ comment_line room comment
 comment_written old sign text new comment zero some began fronted ended = absurd (omega (arith, some))
 comment_written old sign text new comment (suc n) some began fronted ended =
-    let line = front (suc n) (map shown_char (chars comment)) in
+    let line = front (suc n) (map comment_char (chars comment)) in
     ended ∙ ap (λ z. text ++ z) line_end
     ∙ ap (λ z. z ++ codes "\n") (fronted ∙ ap (λ z. z ++ line) began ∙ append_assoc old (codes "# ") line)
     ∙ append_assoc old (codes "# " ++ line) (codes "\n")
@@ -165,10 +165,10 @@ front_length room (c ∷ text) = elim (cases_Bool (nat_lt room 4)) [
 line_length : (room : ℕ) (comment : List ℕ) → length (comment_line room comment) ≤ room + 5
 line_length zero comment = omega arith
 line_length (suc room) comment =
-    let shown = front (suc room) (map shown_char (chars comment)) in
+    let shown = front (suc room) (map comment_char (chars comment)) in
     let begun = length-append (codes "# ") (shown ++ codes "\n") in
     let ended = length-append shown (codes "\n") in
-    let short = front_length (suc room) (map shown_char (chars comment)) in
+    let short = front_length (suc room) (map comment_char (chars comment)) in
     omega (arith, begun, ended, short)
 
 no_lines : (comments : List (List ℕ)) → comment_lines 0 comments ≡ []
@@ -210,15 +210,15 @@ parts_length told name low high places small =
 
 table_length : (name : List ℕ) (kind : Kind) → length (table name kind) ≤ 150 + length name
 table_length name Int =
-    let whole = parts_length (advice Int) name (least Int) (greatest Int) 0 (omega arith) in omega (arith, whole)
+    let whole = parts_length (advice Int) name (least_of_kind Int) (greatest_of_kind Int) 0 (omega arith) in omega (arith, whole)
 table_length name Long =
-    let whole = parts_length (advice Long) name (least Long) (greatest Long) 0 (omega arith) in omega (arith, whole)
+    let whole = parts_length (advice Long) name (least_of_kind Long) (greatest_of_kind Long) 0 (omega arith) in omega (arith, whole)
 table_length name Factor =
-    let whole = parts_length (advice Factor) name (least Factor) (greatest Factor) 3 (omega arith) in omega (arith, whole)
+    let whole = parts_length (advice Factor) name (least_of_kind Factor) (greatest_of_kind Factor) 3 (omega arith) in omega (arith, whole)
 table_length name Big =
-    let whole = parts_length (advice Big) name (least Big) (greatest Big) 2 (omega arith) in omega (arith, whole)
+    let whole = parts_length (advice Big) name (least_of_kind Big) (greatest_of_kind Big) 2 (omega arith) in omega (arith, whole)
 table_length name Table =
-    let whole = parts_length (advice Table) name (least Table) (greatest Table) 2 (omega arith) in omega (arith, whole)
+    let whole = parts_length (advice Table) name (least_of_kind Table) (greatest_of_kind Table) 2 (omega arith) in omega (arith, whole)
 
 entry_length : (input : RawDeclaration) (comments : List (List ℕ)) → length input.name ≤ longest_name
     → length (entry_of input comments) ≤ 400

@@ -8,7 +8,7 @@ use Rattle.pap_reader.specs.declared.element.Element.TheVariants.{Input}
 use Rattle.pap_reader.specs.Trees.{RawDeclaration}
 use Rattle.plan_notes.specs.declared.notes.Notes.{Notes}
 use Rattle.plan_notes.specs.StartTags.{comments_before}
-use Rattle.range_draft.specs.Bounds.{least, greatest, most_places, advice}
+use Rattle.range_draft.specs.Bounds.{least_of_kind, greatest_of_kind, places_of_kind, advice}
 
 -- what stands first
 abbrev pub head : List ℕ
@@ -23,9 +23,9 @@ abbrev pub table : List ℕ → Kind → List ℕ
 table name kind =
     codes "# " ++ (advice kind
     ++ (codes "\n[input." ++ (name
-    ++ (codes "]\nlow = " ++ (least kind
-    ++ (codes "\nhigh = " ++ (greatest kind
-    ++ (codes "\nplaces = " ++ (decimal (most_places kind)
+    ++ (codes "]\nlow = " ++ (least_of_kind kind
+    ++ (codes "\nhigh = " ++ (greatest_of_kind kind
+    ++ (codes "\nplaces = " ++ (decimal (places_of_kind kind)
     ++ codes "\n")))))))))
 
 -- ---- comments
@@ -35,8 +35,8 @@ abbrev pub is_comment_char : ℕ → Bool
 is_comment_char c = nat_le 0x20 c && not (c == 0x7F)
 
 -- a character as a comment shows it: a space for a control character
-abbrev pub shown_char : ℕ → ℕ
-shown_char c = if is_comment_char c then c else 0x20
+abbrev pub comment_char : ℕ → ℕ
+comment_char c = if is_comment_char c then c else 0x20
 
 -- the prefix of these characters that has room, each with at most 4 bytes; `..` stands for those that are left
 -- out
@@ -49,7 +49,7 @@ front room (c ∷ text) =
 abbrev pub comment_line : ℕ → List ℕ → List ℕ
 comment_line zero comment = []
 comment_line (suc room) comment =
-    codes "# " ++ (front (suc room) (map shown_char (chars comment)) ++ codes "\n")
+    codes "# " ++ (front (suc room) (map comment_char (chars comment)) ++ codes "\n")
 
 -- the lines of comments, one after the other: each has the room that those before it leave
 abbrev pub comment_lines : ℕ → List (List ℕ) → List ℕ

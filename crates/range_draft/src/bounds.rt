@@ -1,6 +1,6 @@
 //! The widest bounds that make sense for a type.
 ghost use Rattle.std.specs.Prelude.{◌≡◌};
-ghost use Rattle.range_draft.specs.Bounds.{least, greatest, most_places, advice};
+ghost use Rattle.range_draft.specs.Bounds.{least_of_kind, greatest_of_kind, places_of_kind, advice};
 
 use pap_tree::Kind;
 
@@ -20,9 +20,9 @@ pub struct Bounds {
 /// The widest range that makes sense for an input of a type: all values of a whole number; amounts of less than a million
 /// million with two digits after the point; factors of less than a million with three.
 pub fn widest(kind: Kind) -> Bounds
-    ensures low { result.low.now ≡ least kind }
-    ensures high { result.high.now ≡ greatest kind }
-    ensures places { result.places ≡ most_places kind }
+    ensures low { result.low.now ≡ least_of_kind kind }
+    ensures high { result.high.now ≡ greatest_of_kind kind }
+    ensures places { result.places ≡ places_of_kind kind }
     ensures advice { result.advice.now ≡ advice kind }
 {
     match kind {

@@ -4,7 +4,7 @@ ghost use Rattle.std.specs.Str.{chars};
 ghost use Rattle.pap_tree.specs.Limits.{most_inputs};
 ghost use Rattle.pap_reader.specs.Trees.{tree_of, raw_declaration_of};
 ghost use Rattle.limits_file.specs.Limits.{longest_limits};
-ghost use Rattle.range_draft.specs.Draft.{IsDraft, entry_of, is_comment_char, shown_char, front, comment_line, comment_lines, longest_comment, table};
+ghost use Rattle.range_draft.specs.Draft.{IsDraft, entry_of, is_comment_char, comment_char, front, comment_line, comment_lines, longest_comment, table};
 ghost use Rattle.range_draft.specs.private.DraftViews.{texts_of};
 
 use crate::bounds::widest;
@@ -104,7 +104,7 @@ fn write_comment(text: &mut String, comment: &str, room: usize) -> Result<(), Al
 /// Appends a text in one line, of a long one the prefix that has room.
 fn write_front(text: &mut String, comment: &str, room: usize) -> Result<(), AllocError>
     ensures { OnOk result (string_bytes text.new
-        ≡ string_bytes text.old ++ front room (map shown_char (chars comment.now))) }
+        ≡ string_bytes text.old ++ front room (map comment_char (chars comment.now))) }
 {
     let mut left = room;
     for c in comment.chars() {
@@ -120,7 +120,7 @@ fn write_front(text: &mut String, comment: &str, room: usize) -> Result<(), Allo
 
 /// A character of a comment: a space for a control character.
 fn shown_char(c: char) -> char
-    ensures { result ≡ shown_char c }
+    ensures { result ≡ comment_char c }
 {
     if is_comment_char(c) { c } else { ' ' }
 }

@@ -31,7 +31,7 @@ use Rattle.book_year.specs.Accepted.{Accepted, accepted, accepted_entry, plans_i
 use Rattle.book_year.specs.declared.outcome.Outcome.{Outcome}
 use Rattle.book_year.specs.declared.year.Year.{Year}
 use Rattle.book_year.specs.Records.{record_day}
-use Rattle.book_year.specs.Rows.{Planned, Job, Row, job_of, outputs_in, row_filled, row_of, year_rows}
+use Rattle.book_year.specs.Rows.{Planned, Job, Row, job_of, done_outputs, row_filled, row_of, year_rows}
 use Rattle.book_year.specs.Kept.{AreKept, job_by, kept}
 use Rattle.book_year.specs.Years.{IsYear}
 use Rattle.book_year.proofs.Laws.{pick_in, rows_length}
@@ -140,11 +140,11 @@ module _ (planned : Planned) (d : Day) where
   row_parts None earlier r inputs picked h = absurd (no_list inputs h)
   row_parts (Some e) earlier r inputs picked h = filled_parts e r.values earlier (filled (plan_of e) r.values earlier) r.day inputs picked refl h
 
-  filled_outputs : (e : Entry Accepted) (on : Day) (f : Filled) → (row_filled e on f).job ≡ None → outputs_in (row_filled e on f).state ≡ None
+  filled_outputs : (e : Entry Accepted) (on : Day) (f : Filled) → (row_filled e on f).job ≡ None → done_outputs (row_filled e on f).state ≡ None
   filled_outputs e on (filling.Inputs these) h = cc h
   filled_outputs e on (filling.State why) h = refl
 
-  row_outputs : (o : Option (Entry Accepted)) (earlier : List Earlier) (r : Record) → (row_of o earlier r).job ≡ None → outputs_in (row_of o earlier r).state ≡ None
+  row_outputs : (o : Option (Entry Accepted)) (earlier : List Earlier) (r : Record) → (row_of o earlier r).job ≡ None → done_outputs (row_of o earlier r).state ≡ None
   row_outputs None earlier r h = refl
   row_outputs (Some e) earlier r h = filled_outputs e r.day (filled (plan_of e) r.values earlier) h
 
@@ -178,9 +178,9 @@ no_job (Some j) e = cc e
 pub none_on : (planned : Planned) (rs : List Record) (d : Day) → None ≡ option_map job_inputs (job_by planned rs d) → HasNoOutputs (at_key day_cmp row_day (year_rows planned rs) d)
 none_on planned rs d h = by_row (at_key day_cmp row_day (year_rows planned rs) d) refl
   where
-    by_run : (row : Row) → row.job ≡ None → IsRunOn planned d row → outputs_in row.state ≡ None
+    by_run : (row : Row) → row.job ≡ None → IsRunOn planned d row → done_outputs row.state ≡ None
     by_run row e run =
-        ap (λ (t : Row). outputs_in t.state) run.is ∙ row_outputs planned d (planned d) run.earlier run.item (sym (ap (λ (t : Row). t.job) run.is) ∙ e)
+        ap (λ (t : Row). done_outputs t.state) run.is ∙ row_outputs planned d (planned d) run.earlier run.item (sym (ap (λ (t : Row). t.job) run.is) ∙ e)
 
     by_row : (o : Option Row) → at_key day_cmp row_day (year_rows planned rs) d ≡ o → HasNoOutputs o
     by_row None e = tt

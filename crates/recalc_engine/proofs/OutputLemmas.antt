@@ -25,7 +25,7 @@ use Rattle.book_year.specs.declared.outcome.Outcome.{Outcome}
 use Rattle.book_year.specs.declared.year.Year.{Year}
 use Rattle.book_year.specs.declared.year.YearKey.{YearKey}
 use Rattle.book_year.specs.Kept.{IsBounded}
-use Rattle.book_year.specs.Rows.{Planned, outputs_in, row_filled, row_of, rows}
+use Rattle.book_year.specs.Rows.{Planned, done_outputs, row_filled, row_of, rows}
 use Rattle.book_year.specs.Years.{IsYear}
 use Rattle.book_edits.specs.Books.{YearRuns}
 use Rattle.recalc_engine.specs.BookLaws.{AreAcceptedPlans, IsBook, IsAcceptedPlan}
@@ -118,12 +118,12 @@ run_named p inputs h = by (outputs_of p.meaning.flowchart inputs)
 -- ---- each row
 
 filled_named : (e : Entry Accepted) (d : Day) (f : Filled) → IsAcceptedPlan (plan_of e) →
-    AreNamed (outputs_in (row_filled e d f).state)
+    AreNamed (done_outputs (row_filled e d f).state)
 filled_named e d (filling.Inputs inputs) h = run_named (plan_of e) inputs h
 filled_named e d (filling.State why) h = tt
 
 row_named : (o : Option (Entry Accepted)) (earlier : List Earlier) (r : Record) → HasPlan o →
-    AreNamed (outputs_in (row_of o earlier r).state)
+    AreNamed (done_outputs (row_of o earlier r).state)
 row_named None earlier r h = tt
 row_named (Some e) earlier r h = filled_named e r.day (filled (plan_of e) r.values earlier) h
 

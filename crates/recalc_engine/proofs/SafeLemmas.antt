@@ -31,7 +31,7 @@ use Rattle.pay_run.specs.Runs.{IsKeptValue, filled, named_values, run_outputs}
 use Rattle.pay_run.proofs.Laws.{filled_safe, outputs_are}
 use Rattle.book_year.specs.Accepted.{Accepted}
 use Rattle.book_year.specs.Records.{record_day}
-use Rattle.book_year.specs.Rows.{Job, Planned, Row, outputs_in, row_filled, row_of, rows, year_rows}
+use Rattle.book_year.specs.Rows.{Job, Planned, Row, done_outputs, row_filled, row_of, rows, year_rows}
 use Rattle.book_year.proofs.Laws.{own_few}
 use Rattle.book_edits.specs.Books.{YearRuns, runs_key, runs_or_none, year_cmp, year_of}
 use Rattle.recalc_engine.specs.BookLaws.{HasKeptValues, HasOwnRuns, IsAcceptedPlan, IsSafeJob, JobsAreSafe}
@@ -87,7 +87,7 @@ HasSafeJob (Some j) = IsSafeJob j
 -- the run's job is safe, and its outputs keep their bound
 record IsSound (row : Row) : Type 0 where
   job : HasSafeJob row.job
-  bounded : AreBounded (outputs_in row.state)
+  bounded : AreBounded (done_outputs row.state)
 
 abbrev KeepBound : List Earlier → Type 0
 KeepBound earlier = AllByRecursion (λ (e : Earlier). AreBounded e.outputs) earlier

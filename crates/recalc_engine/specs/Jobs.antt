@@ -4,7 +4,7 @@ use Rattle.std.specs.Option.{option_and_then}
 use Rattle.payroll_records.specs.declared.record.Key.{Key}
 use Rattle.pap_plan.specs.Plans.{Admits}
 use Rattle.book_year.specs.Accepted.{accepted}
-use Rattle.book_year.specs.Rows.{Job, Row, outputs_in}
+use Rattle.book_year.specs.Rows.{Job, Row, done_outputs}
 use Rattle.recalc_engine.specs.declared.job.Job.{Job as LentJob}
 use Rattle.recalc_engine.specs.Contents.{Contents, row_at}
 
@@ -23,4 +23,4 @@ AdmitsInputs j = Admits j.plan.now j.inputs.now
 -- there is no such run, or it has no outputs
 abbrev pub HasNoOutputs : Option Row → Type 0
 HasNoOutputs None = ⊤
-HasNoOutputs (Some row) = outputs_in row.state ≡ None
+HasNoOutputs (Some row) = done_outputs row.state ≡ None

@@ -7,7 +7,7 @@ use Rattle.payroll_records.specs.NamedValues.{name_of}
 use Rattle.payroll_records.specs.Orders.{key_cmp}
 use Rattle.pap_types.specs.Typing.{AreDistinct}
 use Rattle.carry_bindings.specs.Conditions.{AreBounded}
-use Rattle.book_year.specs.Rows.{outputs_in}
+use Rattle.book_year.specs.Rows.{done_outputs}
 use Rattle.recalc_engine.specs.BookLaws.{row_key}
 use Rattle.recalc_engine.specs.MonthRows.{KeyedRow}
 
@@ -22,11 +22,11 @@ AreNamed (Some outputs) = HaveNames outputs
 
 -- each output of a row is within the bound of outputs
 abbrev pub HasBound : KeyedRow → Type 0
-HasBound row = AreBounded (outputs_in row.state)
+HasBound row = AreBounded (done_outputs row.state)
 
 -- the outputs of a row have different names
 abbrev pub HasNames : KeyedRow → Type 0
-HasNames row = AreNamed (outputs_in row.state)
+HasNames row = AreNamed (done_outputs row.state)
 
 -- the keys rise; each output is within the bound of outputs, and those of one run have different names
 pub record AreBookRows (rows : List KeyedRow) : Type 0 where

@@ -9,7 +9,8 @@ use Rattle.book_edits.specs.Books.{YearRuns, loaded}
 use Rattle.recalc_engine.specs.Contents.{Contents, with_years}
 use Rattle.recalc_engine.specs.EditAnswers.{edited_book, load}
 use Rattle.recalc_engine.specs.MonthRows.{KeyedRow, keyed_rows, month_rows}
-use Rattle.report_csv.specs.Reports.{Text, header, row_line, run_text}
+use Rattle.payroll_records.specs.Tables.{Text}
+use Rattle.report_csv.specs.Reports.{header, row_line, run_text}
 use Rattle.report_csv.specs.ReportTexts.{months_text, report_text}
 use Rattle.report_csv.specs.ReportLaws.{table_text, year_text}
 use Rattle.report_csv.specs.TableParts.{AreParts}

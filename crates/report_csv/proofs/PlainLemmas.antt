@@ -20,7 +20,8 @@ use Rattle.payroll_records.specs.Days.{day_text, month_text, two_digits}
 use Rattle.carry_bindings.specs.declared.filling.Blocked.TheVariants as blocked
 use Rattle.book_year.specs.declared.outcome.State.TheVariants as state
 use Rattle.payroll_records.specs.Employees.{is_employee, is_employee_byte}
-use Rattle.report_csv.specs.Reports.{Text, comma, output_fields, plan_text, row_fields, row_line, run_front}
+use Rattle.payroll_records.specs.Tables.{Text}
+use Rattle.report_csv.specs.Reports.{comma, output_fields, plan_text, row_fields, row_line, run_front}
 use Rattle.report_csv.specs.ReportLaws.{RowsNeedNoQuotes}
 
 -- a text without commas, quotes and line ends

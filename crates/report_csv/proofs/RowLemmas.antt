@@ -11,7 +11,8 @@ use Rattle.carry_bindings.specs.declared.filling.Blocked.TheVariants as blocked
 use Rattle.book_year.specs.declared.outcome.State.{State}
 use Rattle.book_year.specs.declared.outcome.State.TheVariants as state
 use Rattle.payroll_records.specs.Days.{day_text}
-use Rattle.report_csv.specs.Reports.{Text, blocked_fields, comma, output_fields, row_line, state_rows}
+use Rattle.payroll_records.specs.Tables.{Text}
+use Rattle.report_csv.specs.Reports.{blocked_fields, comma, output_fields, row_line, state_rows}
 use Rattle.report_csv.specs.private.Views.{bare_writer, output_line}
 
 -- the fields after the first, each with its comma

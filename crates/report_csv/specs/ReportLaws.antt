@@ -18,7 +18,8 @@ use Rattle.book_edits.specs.Books.{YearRuns}
 use Rattle.recalc_engine.specs.Contents.{Contents, with_years}
 use Rattle.recalc_engine.specs.EditAnswers.{edited_book, load}
 use Rattle.recalc_engine.specs.MonthRows.{keyed_rows, month_rows}
-use Rattle.report_csv.specs.Reports.{Text, header, row_line, run_front, state_rows}
+use Rattle.payroll_records.specs.Tables.{Text}
+use Rattle.report_csv.specs.Reports.{header, row_line, run_front, state_rows}
 use Rattle.report_csv.specs.ReportTexts.{months_text, report_text}
 use Rattle.report_csv.specs.TableParts.{AreParts}
 

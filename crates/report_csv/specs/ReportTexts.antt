@@ -3,7 +3,8 @@ use Rattle.std.specs.Prelude.{List, ◌++◌}
 use Rattle.std.specs.List.{flat_map}
 use Rattle.recalc_engine.specs.Contents.{Contents}
 use Rattle.recalc_engine.specs.MonthRows.{KeyedRow, month_rows}
-use Rattle.report_csv.specs.Reports.{Text, header, row_line, run_text}
+use Rattle.payroll_records.specs.Tables.{Text}
+use Rattle.report_csv.specs.Reports.{header, row_line, run_text}
 
 -- the rows of runs, one run after another
 abbrev pub months_text : List KeyedRow → Text

@@ -6,15 +6,12 @@ use Rattle.scaled_decimal.specs.PlainTexts.{plain_text}
 use Rattle.payroll_records.specs.declared.day.Day.{Day}
 use Rattle.payroll_records.specs.declared.record.Key.{Key}
 use Rattle.payroll_records.specs.declared.values.NamedValue.{NamedValue}
+use Rattle.payroll_records.specs.Tables.{Text}
 use Rattle.payroll_records.specs.Days.{day_text, month_text}
 use Rattle.carry_bindings.specs.declared.filling.Blocked.{Blocked}
 use Rattle.carry_bindings.specs.declared.filling.Blocked.TheVariants as blocked
 use Rattle.book_year.specs.declared.outcome.State.{State}
 use Rattle.book_year.specs.declared.outcome.State.TheVariants as state
-
--- a text as its bytes
-abbrev pub Text : Type 0
-Text = List ℕ
 
 -- the byte of a comma
 abbrev pub comma : ℕ

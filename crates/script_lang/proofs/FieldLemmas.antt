@@ -6,7 +6,7 @@ use Rattle.std.specs.declared.alloc.AllocError.{AllocError}
 use Rattle.std.proofs.lemmas.Bool.{false≢true}
 use Rattle.payroll_records.specs.Tables.{Text}
 use Rattle.script_lang.specs.Fields.{Field, IsGood, fault_of, employee, month, day, day_in, value, new_name}
-use Rattle.script_lang.specs.Lines.{Verb, takes, fields_of, IsFirstFault}
+use Rattle.script_lang.specs.Lines.{Verb, takes_words, fields_of, IsFirstFault}
 use Rattle.script_lang.specs.private.Views.{BreaksIn, IsFaultOf}
 use Rattle.script_lang.specs.declared.fault.LineFault.{LineFault}
 use Rattle.script_lang.specs.declared.fault.LineFault.TheVariants as fault
@@ -90,7 +90,7 @@ breaks_of fields fault.LineLong h = h
 breaks_of fields (fault.Memory e) h = tt
 
 -- behind good fields
-pub faulty_in : (verb : Verb) (rest : List Text) (fields : List Field) (f : LineFault) → IsTrue (takes verb rest) →
+pub faulty_in : (verb : Verb) (rest : List Text) (fields : List Field) (f : LineFault) → IsTrue (takes_words verb rest) →
     ((g : LineFault) → IsFirstFault fields g → IsFirstFault (fields_of verb rest) g) → BreaksIn fields f → IsFaultOf verb rest f
 faulty_in verb rest fields fault.Command t more h = (t, more _ h)
 faulty_in verb rest fields fault.Words t more h = absurd (no_first_words fields h)
@@ -102,5 +102,5 @@ faulty_in verb rest fields (fault.Twice name) t more h = (t, more _ h)
 faulty_in verb rest fields fault.LineLong t more h = (t, more _ h)
 faulty_in verb rest fields (fault.Memory e) t more h = tt
 
-pub faulty : (verb : Verb) (rest : List Text) (f : LineFault) → IsTrue (takes verb rest) → IsFirstFault (fields_of verb rest) f → IsFaultOf verb rest f
+pub faulty : (verb : Verb) (rest : List Text) (f : LineFault) → IsTrue (takes_words verb rest) → IsFirstFault (fields_of verb rest) f → IsFaultOf verb rest f
 faulty verb rest f t h = faulty_in verb rest (fields_of verb rest) f t (λ g k. k) (breaks_of (fields_of verb rest) f h)

@@ -17,9 +17,9 @@ use Rattle.script_lang.specs.Commands as asked
 use Rattle.script_lang.specs.Commands.{Asked}
 use Rattle.script_lang.specs.Fields.{Field, IsGood, fault_of, time_field}
 use Rattle.script_lang.specs.Lines.{Verb, plan, drop, add, change, withdraw, load, report, work, trace, filing, owed, opening, trial}
-use Rattle.script_lang.specs.Lines.{text_of, takes, fields_of, IsSilent, IsDayWord, IsOfRun, IsOfRecord, IsOfPlan}
+use Rattle.script_lang.specs.Lines.{text_of, takes_words, fields_of, IsSilent, IsDayWord, IsOfRun, IsOfRecord, IsOfPlan}
 use Rattle.script_lang.specs.Lines.{IsOfFile, Ask, HaveNoVerb, AreNotTaken, IsFirstFault, HaveFirstFault, IsLine, LineSays}
-use Rattle.script_lang.specs.Words.{words_of}
+use Rattle.script_lang.specs.Words.{words_in_line}
 use Rattle.script_lang.specs.declared.fault.LineFault.{LineFault}
 use Rattle.script_lang.specs.declared.fault.LineFault.TheVariants as fault
 use Rattle.script_lang.proofs.FileLemmas.{both_true}
@@ -134,7 +134,7 @@ record Spoken (words : List Text) (what : Asked) : Type 0 where
   rest : List Text
   verb_is : asked_verb what ≡ Some verb
   words_are : words ≡ text_of verb ∷ rest
-  taken : IsTrue (takes verb rest)
+  taken : IsTrue (takes_words verb rest)
   good : AllByRecursion IsGood (fields_of verb rest)
 
 time_good : (word : Text) (t : When) → IsWhenText word t → IsGood (time_field word)
@@ -142,9 +142,9 @@ time_good word (when.Month m) h = let long : length word ≡ 7 = ap length h.wri
 time_good word (when.Day d) h = let long : length word ≡ 10 = ap length h.written in rw long (d.year, d.month, d.day, h)
 
 run_good : (command : Text) (words : List Text) (r : Record) (verb : Verb) → text_of verb ≡ command →
-    ((rest : List Text) → IsTrue (takes add rest) → IsTrue (takes verb rest)) → ((rest : List Text) → AllByRecursion IsGood (fields_of add rest) → AllByRecursion IsGood (fields_of verb rest)) →
+    ((rest : List Text) → IsTrue (takes_words add rest) → IsTrue (takes_words verb rest)) → ((rest : List Text) → AllByRecursion IsGood (fields_of add rest) → AllByRecursion IsGood (fields_of verb rest)) →
     IsOfRecord command words r →
-    (rest : List Text) × (words ≡ text_of verb ∷ rest) × IsTrue (takes verb rest) × AllByRecursion IsGood (fields_of verb rest)
+    (rest : List Text) × (words ≡ text_of verb ∷ rest) × IsTrue (takes_words verb rest) × AllByRecursion IsGood (fields_of verb rest)
 run_good command words r verb is take good h = (
   r.employee ∷ h.month_word ∷ h.day_word ∷ h.value_words,
   h.words_are ∙ ap (λ c. c ∷ r.employee ∷ h.month_word ∷ h.day_word ∷ h.value_words) (sym is),
@@ -153,7 +153,7 @@ run_good command words r verb is take good h = (
 )
 
 plan_spoken : (what : Asked) (verb : Verb) (words : List Text) (d : Day) (p l : Text) → asked_verb what ≡ Some verb →
-    ((rest : List Text) → IsTrue (takes plan rest) → IsTrue (takes verb rest)) →
+    ((rest : List Text) → IsTrue (takes_words plan rest) → IsTrue (takes_words verb rest)) →
     ((rest : List Text) → AllByRecursion IsGood (fields_of plan rest) → AllByRecursion IsGood (fields_of verb rest)) →
     IsOfPlan (text_of verb) words d p l → Spoken words what
 plan_spoken what verb words d p l is take good h = record {
@@ -200,10 +200,10 @@ data Wrong (words : List Text) : LineFault → Type 0 where
 same_parts : (words : List Text) (v w : Verb) (r s : List Text) → words ≡ text_of v ∷ r → words ≡ text_of w ∷ s → (v ≡ w) × (r ≡ s)
 same_parts words v w r s e f = let verbs : text_of v ≡ text_of w = cc in (verb_once v w verbs, cc)
 
-none_and_taken : (words : List Text) (h : AreNotTaken words) (verb : Verb) (rest : List Text) → words ≡ text_of verb ∷ rest → IsTrue (takes verb rest) → ⊥
+none_and_taken : (words : List Text) (h : AreNotTaken words) (verb : Verb) (rest : List Text) → words ≡ text_of verb ∷ rest → IsTrue (takes_words verb rest) → ⊥
 none_and_taken words h verb rest e t =
     let same = same_parts words h.verb verb h.rest rest h.words_are e in
-    false≢true (sym h.wrong ∙ ap (λ v. takes v h.rest) same.0 ∙ ap (takes verb) same.1 ∙ t)
+    false≢true (sym h.wrong ∙ ap (λ v. takes_words v h.rest) same.0 ∙ ap (takes_words verb) same.1 ∙ t)
 
 silent_wrong : (words : List Text) (f : LineFault) → IsSilent words → Wrong words f → ⊥
 silent_wrong words f s (no_verb h) = h.said s
@@ -324,7 +324,7 @@ ask_once words a b h k = elim (spoken words a h) [
 
 data Why (line : Text) : LineFault → Type 0 where
   too_long : 65536 + 1 ≤ length line → Why line fault.LineLong
-  wrong : (f : LineFault) → length line ≤ 65536 → Wrong (words_of line) f → Why line f
+  wrong : (f : LineFault) → length line ≤ 65536 → Wrong (words_in_line line) f → Why line f
 
 why : (line : Text) (f : LineFault) → LineSays line (Err f) → Why line f
 why line fault.Command h = wrong _ h.0 (no_verb h.1)
@@ -339,16 +339,16 @@ why line (fault.Memory e) h = absurd h
 
 line_why : (line : Text) (what : Asked) (f : LineFault) → IsLine line what → Why line f → ⊥
 line_why line what f h (too_long l) = let short = h.short in omega arith
-line_why line what f h (wrong g short w) = ask_wrong (words_of line) what g h.ask w
+line_why line what f h (wrong g short w) = ask_wrong (words_in_line line) what g h.ask w
 
 whys_once : (line : Text) (f g : LineFault) → Why line f → Why line g → f ≡ g
 whys_once line f g (too_long l) (too_long m) = refl
 whys_once line f g (too_long l) (wrong e short w) = absurd (omega arith)
 whys_once line f g (wrong e short w) (too_long l) = absurd (omega arith)
-whys_once line f g (wrong e short w) (wrong d short' w') = wrong_once (words_of line) e d w w'
+whys_once line f g (wrong e short w) (wrong d short' w') = wrong_once (words_in_line line) e d w w'
 
 pub line_once : (line : Text) (x y : Result Asked LineFault) → LineSays line x → LineSays line y → x ≡ y
-line_once line (Ok a) (Ok b) h k = ap Ok (ask_once (words_of line) a b h.ask k.ask)
+line_once line (Ok a) (Ok b) h k = ap Ok (ask_once (words_in_line line) a b h.ask k.ask)
 line_once line (Ok a) (Err g) h k = absurd (line_why line a g h (why line g k))
 line_once line (Err f) (Ok b) h k = absurd (line_why line b f k (why line f h))
 line_once line (Err f) (Err g) h k = ap Err (whys_once line f g (why line f h) (why line g k))

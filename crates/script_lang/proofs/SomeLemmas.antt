@@ -16,9 +16,9 @@ use Rattle.script_lang.specs.Commands as asked
 use Rattle.script_lang.specs.Commands.{Asked}
 use Rattle.script_lang.specs.Fields.{Field, IsGood, fault_of, employee, month, day, day_in, value, new_name, name_in, time_field}
 use Rattle.script_lang.specs.Lines.{Verb, plan, drop, add, change, withdraw, load, report, work, trace, filing, owed, opening, trial}
-use Rattle.script_lang.specs.Lines.{text_of, takes, fields_of, IsSilent, IsOfRun, IsOfRecord, IsOfPlan, IsOfFile}
+use Rattle.script_lang.specs.Lines.{text_of, takes_words, fields_of, IsSilent, IsOfRun, IsOfRecord, IsOfPlan, IsOfFile}
 use Rattle.script_lang.specs.Lines.{Ask, IsFirstFault, HaveFirstFault, LineSays}
-use Rattle.script_lang.specs.Words.{words_of}
+use Rattle.script_lang.specs.Words.{words_in_line}
 use Rattle.script_lang.specs.declared.fault.LineFault.{LineFault}
 use Rattle.script_lang.specs.declared.fault.LineFault.TheVariants as fault
 use Rattle.script_lang.proofs.FieldLemmas.{first_here, first_later, no_first_command, no_first_words, no_first_long, no_first_memory}
@@ -135,7 +135,7 @@ time_of word h = by (length word == 7) h
     by true g = (when.Month (record { year = g.0; month = g.1; exists = g.2.exists }), g.2)
     by false g = (when.Day (day_of_text word g), g.3)
 
-run_of : (command : Text) (rest : List Text) → IsTrue (takes add rest) → AllByRecursion IsGood (fields_of add rest) → (r : Record) × IsOfRecord command (command ∷ rest) r
+run_of : (command : Text) (rest : List Text) → IsTrue (takes_words add rest) → AllByRecursion IsGood (fields_of add rest) → (r : Record) × IsOfRecord command (command ∷ rest) r
 run_of command (e ∷ m ∷ d ∷ vs) taken good =
     let who = good.0 in
     let when = good.1.0 in
@@ -146,13 +146,13 @@ run_of command (e ∷ m ∷ d ∷ vs) taken good =
     )
 run_of command rest taken good = absurd (false≢true taken)
 
-meant_of : (command : Text) (rest : List Text) → IsTrue (takes withdraw rest) → AllByRecursion IsGood (fields_of withdraw rest) → (e : Text) × (t : When) × IsOfRun command (command ∷ rest) e t
+meant_of : (command : Text) (rest : List Text) → IsTrue (takes_words withdraw rest) → AllByRecursion IsGood (fields_of withdraw rest) → (e : Text) × (t : When) × IsOfRun command (command ∷ rest) e t
 meant_of command (e ∷ w ∷ []) taken good =
     let t = time_of w good.1.0 in
     (e, t.0, record { word = w; words_are = refl; employee_is = good.0; time_is = t.1 })
 meant_of command rest taken good = absurd (false≢true taken)
 
-plan_of : (command : Text) (rest : List Text) → IsTrue (takes plan rest) → AllByRecursion IsGood (fields_of plan rest) →
+plan_of : (command : Text) (rest : List Text) → IsTrue (takes_words plan rest) → AllByRecursion IsGood (fields_of plan rest) →
     (d : Day) × (p : Text) × (l : Text) × IsOfPlan command (command ∷ rest) d p l
 plan_of command (w ∷ p ∷ l ∷ []) taken good = (
   day_of_text w good.0,
@@ -162,11 +162,11 @@ plan_of command (w ∷ p ∷ l ∷ []) taken good = (
 )
 plan_of command rest taken good = absurd (false≢true taken)
 
-file_of : (command : Text) (rest : List Text) → IsTrue (takes load rest) → (f : Text) × IsOfFile command (command ∷ rest) f
+file_of : (command : Text) (rest : List Text) → IsTrue (takes_words load rest) → (f : Text) × IsOfFile command (command ∷ rest) f
 file_of command (f ∷ []) taken = (f, record { words_are = refl; file_is = taken })
 file_of command rest taken = absurd (false≢true taken)
 
-asked_by : (verb : Verb) (rest : List Text) → IsTrue (takes verb rest) → AllByRecursion IsGood (fields_of verb rest) → (what : Asked) × Ask (text_of verb ∷ rest) what
+asked_by : (verb : Verb) (rest : List Text) → IsTrue (takes_words verb rest) → AllByRecursion IsGood (fields_of verb rest) → (what : Asked) × Ask (text_of verb ∷ rest) what
 asked_by plan rest taken good = let p = plan_of (codes "plan") rest taken good in (asked.plan p.0 p.1 p.2, p.3)
 asked_by drop (w ∷ []) taken good = (asked.drop (day_of_text w good.0), record { word = w; words_are = refl; day_is = good.0.3 })
 asked_by add rest taken good = let r = run_of (codes "add") rest taken good in (asked.add r.0, r.1)
@@ -188,7 +188,7 @@ asked_by verb rest taken good = absurd (false≢true taken)
 Answered : Text → Type 0
 Answered line = (x : Result Asked LineFault) × LineSays line x
 
-first_says : (line : Text) (f : LineFault) → length line ≤ 65536 → (h : HaveFirstFault (words_of line) f) → LineSays line (Err f)
+first_says : (line : Text) (f : LineFault) → length line ≤ 65536 → (h : HaveFirstFault (words_in_line line) f) → LineSays line (Err f)
 first_says line fault.Command short h = absurd (no_first_command _ h.first)
 first_says line fault.Words short h = absurd (no_first_words _ h.first)
 first_says line fault.Employee short h = (short, h)
@@ -199,20 +199,20 @@ first_says line (fault.Twice name) short h = (short, h)
 first_says line fault.LineLong short h = absurd (no_first_long _ h.first)
 first_says line (fault.Memory e) short h = absurd (no_first_memory _ e h.first)
 
-spoken_some : (line : Text) → length line ≤ 65536 → (verb : Verb) (rest : List Text) → words_of line ≡ text_of verb ∷ rest → Answered line
+spoken_some : (line : Text) → length line ≤ 65536 → (verb : Verb) (rest : List Text) → words_in_line line ≡ text_of verb ∷ rest → Answered line
 unfolding Answered GoodOrFault
-spoken_some line short verb rest e = by (true_decided (takes verb rest)) (good_or_fault (fields_of verb rest))
+spoken_some line short verb rest e = by (true_decided (takes_words verb rest)) (good_or_fault (fields_of verb rest))
   where
     no_true : (b : Bool) → (IsTrue b → ⊥) → b ≡ false
     no_true true n = absurd (n refl)
     no_true false n = refl
 
-    by : Decided (IsTrue (takes verb rest)) → GoodOrFault (fields_of verb rest) → Answered line
+    by : Decided (IsTrue (takes_words verb rest)) → GoodOrFault (fields_of verb rest) → Answered line
     by (inr none) g = (Err fault.Words, (short, record { verb = verb; rest = rest; words_are = e; wrong = no_true _ none }))
     by (inl taken) (inr f) = (Err f.0, first_says line f.0 short (record { verb = verb; rest = rest; words_are = e; taken = taken; first = f.1 }))
     by (inl taken) (inl good) = let a = asked_by verb rest taken good in (Ok a.0, record { short = short; ask = subst (λ ws. Ask ws a.0) (sym e) a.1 })
 
-words_some : (line : Text) → length line ≤ 65536 → (words : List Text) → words_of line ≡ words → Answered line
+words_some : (line : Text) → length line ≤ 65536 → (words : List Text) → words_in_line line ≡ words → Answered line
 unfolding Answered VerbOrNone
 words_some line short [] e = (Ok asked.nothing, record { short = short; ask = subst IsSilent (sym e) tt })
 words_some line short (w ∷ ws) e = elim (eq_decided (slice_index w 0) 35) [
@@ -236,5 +236,5 @@ pub line_some : (line : Text) → (x : Result Asked LineFault) × LineSays line 
 unfolding Answered
 line_some line = elim (cases_lt 65536 (length line)) [
   | inl long ↦ (Err fault.LineLong, long)
-  | inr short ↦ words_some line short (words_of line) refl
+  | inr short ↦ words_some line short (words_in_line line) refl
 ]

@@ -16,7 +16,7 @@ use Rattle.script_lang.specs.Commands.{Asked}
 use Rattle.script_lang.specs.Fields as field
 use Rattle.script_lang.specs.Fields.{Field, IsGood, fault_of, run_fields, record_fields}
 use Rattle.script_lang.specs.Limits.{most_line}
-use Rattle.script_lang.specs.Words.{words_of, is_file}
+use Rattle.script_lang.specs.Words.{words_in_line, is_file}
 use Rattle.script_lang.specs.declared.fault.LineFault.{LineFault}
 use Rattle.script_lang.specs.declared.fault.LineFault.TheVariants as fault
 
@@ -99,7 +99,7 @@ Ask words (asked.trial d plan limits) = IsOfPlan (codes "try") words d plan limi
 -- what a line asks for
 pub record IsLine (line : Text) (what : Asked) : Type 0 where
   pub short : IsShort line
-  pub ask : Ask (words_of line) what
+  pub ask : Ask (words_in_line line) what
 
 -- ---- why a line is refused
 
@@ -155,22 +155,22 @@ abbrev pub takes_file : List Text → Bool
 takes_file (file ∷ []) = is_file file
 takes_file _ = false
 
--- whether a command takes these words behind its first: as many as these, and files where it names files
-abbrev pub takes : Verb → List Text → Bool
-takes plan words = takes_plan words
-takes drop (day ∷ []) = true
-takes add words = takes_record words
-takes change words = takes_record words
-takes withdraw words = takes_run words
-takes load words = takes_file words
-takes report [] = true
-takes work [] = true
-takes trace words = takes_run words
-takes filing (month ∷ []) = true
-takes owed [] = true
-takes opening words = takes_file words
-takes trial words = takes_plan words
-takes _ _ = false
+-- whether a command takes_words these words behind its first: as many as these, and files where it names files
+abbrev pub takes_words : Verb → List Text → Bool
+takes_words plan words = takes_plan words
+takes_words drop (day ∷ []) = true
+takes_words add words = takes_record words
+takes_words change words = takes_record words
+takes_words withdraw words = takes_run words
+takes_words load words = takes_file words
+takes_words report [] = true
+takes_words work [] = true
+takes_words trace words = takes_run words
+takes_words filing (month ∷ []) = true
+takes_words owed [] = true
+takes_words opening words = takes_file words
+takes_words trial words = takes_plan words
+takes_words _ _ = false
 
 -- the day of a plan
 abbrev pub plan_fields : List Text → List Field
@@ -199,7 +199,7 @@ pub record AreNotTaken (words : List Text) : Type 0 where
   pub verb : Verb
   pub rest : List Text
   pub words_are : words ≡ text_of verb ∷ rest
-  pub wrong : takes verb rest ≡ false
+  pub wrong : takes_words verb rest ≡ false
 
 -- the leftmost field that is not good has this fault
 pub record IsFirstFault (fields : List Field) (f : LineFault) : Type 0 where
@@ -211,12 +211,12 @@ pub record IsFirstFault (fields : List Field) (f : LineFault) : Type 0 where
   pub broken : IsGood field → ⊥
   pub fault_is : f ≡ fault_of field
 
--- the command of the first word takes the others, and the first fault among them is this
+-- the command of the first word takes_words the others, and the first fault among them is this
 pub record HaveFirstFault (words : List Text) (f : LineFault) : Type 0 where
   pub verb : Verb
   pub rest : List Text
   pub words_are : words ≡ text_of verb ∷ rest
-  pub taken : IsTrue (takes verb rest)
+  pub taken : IsTrue (takes_words verb rest)
   pub first : IsFirstFault (fields_of verb rest) f
 
 -- this is wrong with the words; or memory ran out, which may be at any words
@@ -231,7 +231,7 @@ AreWrong words other = HaveFirstFault words other
 abbrev pub IsLineFault : Text → LineFault → Type 0
 IsLineFault line fault.LineLong = most_line < length line
 IsLineFault line (fault.Memory error) = ⊥
-IsLineFault line other = IsShort line × AreWrong (words_of line) other
+IsLineFault line other = IsShort line × AreWrong (words_in_line line) other
 
 -- why a call refuses a line: what the line says, or memory ran out, which may be at any line that isn't too long
 abbrev pub IsLineFaultOrMemory : Text → LineFault → Type 0

@@ -4,12 +4,12 @@ use Rattle.std.specs.List.{list_all, slice_split}
 use Rattle.payroll_records.specs.Tables.{Text}
 
 -- a space or a tab
-abbrev pub is_blank : ℕ → Bool
-is_blank b = (b == 32) || (b == 9)
+abbrev pub is_space_or_tab : ℕ → Bool
+is_space_or_tab b = (b == 32) || (b == 9)
 
 -- the words of a line: it is cut at each blank, and its words are the parts that have a byte
-abbrev pub words_of : Text → List Text
-words_of line = filter (λ part. not (length part == 0)) (slice_split is_blank line)
+abbrev pub words_in_line : Text → List Text
+words_in_line line = filter (λ part. not (length part == 0)) (slice_split is_space_or_tab line)
 
 -- a byte from 0x21 to 0x7E
 abbrev pub is_visible : ℕ → Bool

@@ -5,7 +5,7 @@ ghost use Rattle.memchr.specs.Find.{IsFirstByte};
 ghost use Rattle.script_lang.specs.Lines as lines;
 ghost use Rattle.script_lang.specs.Lines.{text_of};
 ghost use Rattle.script_lang.specs.private.Views.{counted, texts, verb_of};
-ghost use Rattle.script_lang.specs.Words.{is_blank, is_file, is_visible, words_of};
+ghost use Rattle.script_lang.specs.Words.{is_space_or_tab, is_file, is_visible, words_in_line};
 
 use memchr::memchr2;
 use std::alloc::{AllocError, Global};
@@ -37,7 +37,7 @@ pub(crate) enum Verb {
 
 /// The words of a line.
 pub(crate) fn words(alloc: Global, line: &[u8]) -> Result<Vec<&[u8]>, AllocError>
-    ensures { IfOk result (λ words. texts words.items ≡ words_of line.now) }
+    ensures { IfOk result (λ words. texts words.items ≡ words_in_line line.now) }
 {
     let mut words = Vec::with_capacity(alloc, line.len() / USUAL_WORD + 1)?;
     let mut rest = line;
@@ -62,7 +62,7 @@ fn with_word<'a>(mut words: Vec<&'a [u8]>, part: &'a [u8]) -> Result<Vec<&'a [u8
 
 /// The place of the first space or tab.
 fn first_blank(text: &[u8]) -> Option<usize>
-    ensures { IsFirstByte is_blank text.now result }
+    ensures { IsFirstByte is_space_or_tab text.now result }
 {
     memchr2(b' ', b'\t', text)
 }

@@ -6,7 +6,7 @@ use Rattle.outside.specs.Memory.{file_named}
 use Rattle.script_lang.specs.Commands as asked
 use Rattle.script_lang.specs.Commands.{Asked}
 use Rattle.script_lang.specs.Lines.{Ask}
-use Rattle.script_lang.specs.Words.{words_of}
+use Rattle.script_lang.specs.Words.{words_in_line}
 use Rattle.script_steps.specs.LineSteps.{IsFileOf}
 use Rattle.script_steps.specs.Steps.{AreThere}
 use Rattle.script_run.specs.Samples.{sample_lines, add_line, change_line}
@@ -39,10 +39,10 @@ names_none word more words cut no_plan no_load no_try no_open (asked.trial day p
     no_try (head_same word (codes "try") more _ (sym cut ∙ ask.words_are))
 
 -- so it is of a line that begins with such a word
-there_by : (files : FileMap) (word line : List ℕ) (more : List (List ℕ)) → words_of line ≡ word ∷ more →
+there_by : (files : FileMap) (word line : List ℕ) (more : List (List ℕ)) → words_in_line line ≡ word ∷ more →
     word ≢ codes "plan" → word ≢ codes "load" → word ≢ codes "try" → word ≢ codes "open" → AreThere files line
 there_by files word line more cut no_plan no_load no_try no_open = λ name names.
-    absurd (names_none word more (words_of line) cut no_plan no_load no_try no_open names.what (names.is_line).ask name names.is_file)
+    absurd (names_none word more (words_in_line line) cut no_plan no_load no_try no_open names.what (names.is_line).ask name names.is_file)
 
 add_there : (files : FileMap) (employee month : ℕ) → AreThere files (add_line employee month)
 add_there files employee month =
@@ -94,7 +94,7 @@ plan_names files plan_is limits_is asked.owed ask name file = absurd file
 plan_names files plan_is limits_is (asked.trial day plan limits) ask name file =
     let same = head_same (codes "plan") (codes "try") _ _ ask.words_are in cc
 
-words_of-plan : words_of plan_line ≡ plan_words
+words_of-plan : words_in_line plan_line ≡ plan_words
 words_of-plan = refl
 
 plan_there : (files : FileMap) → IsSome (files (codes "p2.xml")) → IsSome (files (codes "l2.toml")) →

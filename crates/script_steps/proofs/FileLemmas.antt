@@ -12,7 +12,7 @@ use Rattle.payroll_records.specs.Tables.{TableSays, IsTable, BreaksAt, ByItself,
 use Rattle.payroll_records.specs.Tables.{WrongEmployee, WrongMonth, WrongDay, WrongValue, Repeats}
 use Rattle.script_lang.specs.Commands as asked
 use Rattle.pap_plan.specs.declared.refusal.PlanRefusal.{PlanRefusal}
-use Rattle.pap_plan.specs.Acceptance.{Meaning, Answers}
+use Rattle.pap_plan.specs.Acceptance.{Meaning, AcceptanceSays}
 use Rattle.plan_answers.specs.Answers.{Answer}
 use Rattle.plan_answers.proofs.Laws.{whole, longer, front_there, answers_front, accepted_whole, refusal_answer}
 use Rattle.script_steps.specs.Standings.{Standing, Doing}
@@ -74,7 +74,7 @@ open_told told from file front read to a h =
 
 module _ (n m : ℕ) (more_plan : 1048576 < n) (more_limits : 262144 < m) where
   used_front : (Use : PlanUse) (from : Standing) (day : Day) (plan limits : List ℕ) (v : Result Meaning PlanRefusal)
-      (to : Standing) (a : Answer) → Answers (take n plan) (take m limits) v
+      (to : Standing) (a : Answer) → AcceptanceSays (take n plan) (take m limits) v
       → IsUsed Use from day (take n plan) (take m limits) v to a → IsUsed Use from day plan limits v to a
   used_front Use from day plan limits (Ok x) to a h is =
       let same = accepted_whole n m more_plan more_limits plan limits x h in

@@ -10,7 +10,7 @@ use Rattle.payroll_records.specs.declared.table.TableFault.{TableFault}
 use Rattle.payroll_records.specs.Tables.{TableSays}
 use Rattle.plan_calendar.specs.Picking.{Entry}
 use Rattle.pap_plan.specs.declared.refusal.PlanRefusal.{PlanRefusal}
-use Rattle.pap_plan.specs.Acceptance.{Answers, Meaning}
+use Rattle.pap_plan.specs.Acceptance.{AcceptanceSays, Meaning}
 use Rattle.book_edits.specs.declared.refusal.EditRefusal.{EditRefusal}
 use Rattle.book_year.specs.Accepted.{Accepted}
 use Rattle.book_year.specs.declared.outcome.Work.{Work}
@@ -146,7 +146,7 @@ module _ (Use : PlanUse) (use_going : (e : Entry Accepted) → Going (λ from. U
   texts_going : (plan limits : List ℕ) → Going (λ from. IsTextsStep Use from day plan limits)
   texts_going plan limits made from to answer h = by h.verdict h.says h.is
     where
-      by : (v : Result Meaning PlanRefusal) → Answers plan limits v → IsUsed Use from day plan limits v to answer
+      by : (v : Result Meaning PlanRefusal) → AcceptanceSays plan limits v → IsUsed Use from day plan limits v to answer
           → Goes (λ from. IsTextsStep Use from day plan limits) made from to answer
       by (Ok m) says is =
           let g = use_going (day, record { plan = plan; limits = limits; meaning = m }) made from to answer is in

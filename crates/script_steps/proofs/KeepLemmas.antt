@@ -15,7 +15,7 @@ use Rattle.saved_items.specs.SavedBooks.{IsRun, IsValue}
 use Rattle.pay_run.specs.Runs.{IsKeptValue}
 use Rattle.book_year.specs.Accepted.{Accepted}
 use Rattle.pap_plan.specs.declared.refusal.PlanRefusal.{PlanRefusal}
-use Rattle.pap_plan.specs.Acceptance.{Answers, Meaning}
+use Rattle.pap_plan.specs.Acceptance.{AcceptanceSays, Meaning}
 use Rattle.book_edits.specs.declared.refusal.EditRefusal.{EditRefusal}
 use Rattle.correction_ledger.specs.declared.ledger.FileRefusal.{FileRefusal}
 use Rattle.correction_ledger.specs.Filings.{Filings}
@@ -87,7 +87,7 @@ module _ (from : Standing) (sound : IsSound from.book) where
       (day : Day) (plan limits : List ℕ) → Keeping (IsPlanStep Use files from day plan limits)
   plan_keeps Use keeps files day plan limits to answer h = by h.is.verdict h.is.says h.is.is
     where
-      by : (v : Result Meaning PlanRefusal) → Answers h.plan_bytes h.limits_bytes v
+      by : (v : Result Meaning PlanRefusal) → AcceptanceSays h.plan_bytes h.limits_bytes v
           → IsUsed Use from day h.plan_bytes h.limits_bytes v to answer → IsSound to.book
       by (Ok m) says is =
           keeps (day, record { plan = h.plan_bytes; limits = h.limits_bytes; meaning = m }) says to answer is

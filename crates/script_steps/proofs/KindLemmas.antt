@@ -10,7 +10,7 @@ use Rattle.payroll_records.proofs.Laws.{table_once, table_some}
 use Rattle.plan_calendar.specs.Picking.{Entry}
 use Rattle.book_year.specs.Accepted.{Accepted}
 use Rattle.pap_plan.specs.declared.refusal.PlanRefusal.{PlanRefusal}
-use Rattle.pap_plan.specs.Acceptance.{Meaning, Answers}
+use Rattle.pap_plan.specs.Acceptance.{Meaning, AcceptanceSays}
 use Rattle.pap_plan.proofs.Laws as plans
 use Rattle.book_edits.specs.declared.refusal.EditRefusal.{EditRefusal}
 use Rattle.recalc_engine.specs.Contents.{Contents}
@@ -123,7 +123,7 @@ module _ (Use : PlanUse) (from : Standing) (day : Day) where
       → Has (IsTextsStep Use from day plan limits)
   texts_some use_some plan limits = let v = plans.some plan limits in by v.0 v.1
     where
-      by : (v : Result Meaning PlanRefusal) → Answers plan limits v → Has (IsTextsStep Use from day plan limits)
+      by : (v : Result Meaning PlanRefusal) → AcceptanceSays plan limits v → Has (IsTextsStep Use from day plan limits)
       by (Ok m) h =
           let e = use_some (day, record { plan = plan; limits = limits; meaning = m }) in
           (e.0, e.1, record { verdict = Ok m; says = h; is = e.2 })

@@ -11,7 +11,7 @@ use Rattle.payroll_records.specs.declared.table.TableFault.{TableFault}
 use Rattle.plan_calendar.specs.Picking.{Entry}
 use Rattle.pap_types.specs.Meaning.{bound_of}
 use Rattle.pap_plan.specs.declared.refusal.PlanRefusal.{PlanRefusal}
-use Rattle.pap_plan.specs.Acceptance.{Answers, Meaning}
+use Rattle.pap_plan.specs.Acceptance.{AcceptanceSays, Meaning}
 use Rattle.book_year.specs.Accepted.{Accepted}
 use Rattle.book_edits.specs.declared.refusal.EditRefusal.{EditRefusal}
 use Rattle.recalc_engine.specs.Contents.{Contents, whole_cost}
@@ -169,7 +169,7 @@ module _ (from to : Standing) (answer : Answer) (day : Day) (plan limits : List 
   put_holds : IsTextsStep IsPut from day plan limits to answer → NeverFailsWithin plan limits steps
   put_holds h = by h.verdict h.says h.is
     where
-      by : (v : Result Meaning PlanRefusal) → Answers plan limits v → IsUsed IsPut from day plan limits v to answer
+      by : (v : Result Meaning PlanRefusal) → AcceptanceSays plan limits v → IsUsed IsPut from day plan limits v to answer
           → NeverFailsWithin plan limits steps
       by (Ok m) says is =
           let printed = put_bound (day, record { plan = plan; limits = limits; meaning = m }) is in

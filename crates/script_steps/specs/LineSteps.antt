@@ -12,7 +12,7 @@ use Rattle.script_lang.specs.Commands.{Asked}
 use Rattle.script_lang.specs.declared.fault.LineFault.{LineFault}
 use Rattle.pap_types.specs.Meaning.{bound_of}
 use Rattle.pap_plan.specs.declared.refusal.PlanRefusal.{PlanRefusal}
-use Rattle.pap_plan.specs.Acceptance.{Meaning, Answers}
+use Rattle.pap_plan.specs.Acceptance.{Meaning, AcceptanceSays}
 use Rattle.book_edits.specs.declared.refusal.EditRefusal.{EditRefusal}
 use Rattle.recalc_engine.specs.Contents.{Contents}
 use Rattle.recalc_engine.specs.EditAnswers as edits
@@ -80,7 +80,7 @@ IsUsed Use from day plan limits (Err why) to answer = (to ≡ from) × IsRefusal
 pub record IsTextsStep
     (Use : PlanUse) (from : Standing) (day : Day) (plan limits : List ℕ) (to : Standing) (answer : Answer) : Type 0 where
   pub verdict : Result Meaning PlanRefusal
-  pub says : Answers plan limits verdict
+  pub says : AcceptanceSays plan limits verdict
   pub is : IsUsed Use from day plan limits verdict to answer
 
 -- the step of a line that names the two files of a plan

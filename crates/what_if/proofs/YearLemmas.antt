@@ -13,7 +13,7 @@ use Rattle.book_year.specs.declared.year.Year.{Year}
 use Rattle.book_year.specs.declared.year.YearKey.{YearKey}
 use Rattle.book_year.specs.Jobs.{total_cost}
 use Rattle.book_year.specs.Kept.{kept}
-use Rattle.book_year.specs.Rows.{Planned, Row, outputs_in, year_rows}
+use Rattle.book_year.specs.Rows.{Planned, Row, done_outputs, year_rows}
 use Rattle.book_year.specs.Years.{IsOwn, IsYear, year_jobs}
 use Rattle.book_year.proofs.Laws.{rows_length}
 use Rattle.book_edits.specs.Books.{year_cmp}
@@ -31,7 +31,7 @@ use Rattle.what_if.specs.private.YearViews.{ArePlanned, HasOutcomes, IsNamed, ch
 
 -- ---- the outputs of a year's runs have different names
 
-named_of : (s : State) → AreNamed (outputs_in s) → HaveNames (state_outputs s)
+named_of : (s : State) → AreNamed (done_outputs s) → HaveNames (state_outputs s)
 named_of state.NoPlan h = no_names
 named_of (state.Blocked b) h = no_names
 named_of (state.Done vs) h = h

@@ -2,7 +2,7 @@
 ghost use Rattle.std.specs.Prelude.{◌≡◌, IfOk, IfErr};
 ghost use Rattle.book_year.specs.Accepted.{accepted, plans_in};
 ghost use Rattle.book_year.specs.Jobs.{Counts, total_cost};
-ghost use Rattle.book_year.specs.Picks.{before, after, ArePicks};
+ghost use Rattle.book_year.specs.Picks.{planned_before, planned_after, ArePicks};
 ghost use Rattle.book_edits.specs.Kept.{AreYears, jobs_in, years_of};
 ghost use Rattle.recalc_engine.specs.EditAnswers.{CanEdit, put};
 ghost use Rattle.what_if.specs.TrialLaws.{NamedRunsChange, RowsTellBoth, SameStatesAreOne, UnnamedRunsStay, UntoldValuesStay};
@@ -58,11 +58,13 @@ fn try_years<L: Ledger>(
 ) -> Result<Trial, AllocError>
     requires picks { ArePicks picks.now }
     requires years { AreYears (plans_in picks.now.plans.now) years.now }
-    requires before { ArePlanned (before picks.now) }
-    requires after { ArePlanned (after picks.now) }
-    ensures ok { IfOk result (IsTried (before picks.now) (after picks.now) years.now) }
+    requires before { ArePlanned (planned_before picks.now) }
+    requires after { ArePlanned (planned_after picks.now) }
+    ensures ok { IfOk result
+        (IsTried (planned_before picks.now) (planned_after picks.now) years.now) }
     ensures counted { Counts result steps.old steps.new (total_cost
-        (jobs_in (before picks.now) (after picks.now) (years_of years.now) (years_of years.now))) }
+        (jobs_in (planned_before picks.now) (planned_after picks.now) (years_of years.now)
+        (years_of years.now))) }
 {
     let mut rows = Vec::new(alloc);
     let mut runs = 0;

@@ -19,10 +19,10 @@ use Rattle.book_year.specs.declared.chain.Ran.{Ran}
 use Rattle.book_year.specs.declared.chain.Rest.{Rest}
 use Rattle.book_year.specs.declared.picks.Picks.{Picks}
 use Rattle.book_year.specs.Records.{records_of}
-use Rattle.book_year.specs.Rows.{Planned, Job, Row, outputs_in}
+use Rattle.book_year.specs.Rows.{Planned, Job, Row, done_outputs}
 use Rattle.book_year.specs.Jobs.{new_job, work_of}
 use Rattle.book_year.specs.Kept.{kept}
-use Rattle.book_year.specs.Picks.{before, after}
+use Rattle.book_year.specs.Picks.{planned_before, planned_after}
 use Rattle.book_year.specs.ChainClauses.{AreNew, old_jobs}
 
 -- the plan of a day, if it has one, reads nothing of earlier runs
@@ -44,7 +44,7 @@ outcome_parts (Some inputs) None = None
 outcome_parts (Some inputs) (Some outputs) = Some (inputs, outputs)
 
 abbrev pub outcome_job : Outcome → Option (List Decimal × List NamedValue)
-outcome_job o = outcome_parts o.inputs (outputs_in o.state)
+outcome_job o = outcome_parts o.inputs (done_outputs o.state)
 
 abbrev pub old_parts : OldJob → List Decimal × List NamedValue
 old_parts j = (j.inputs.now, j.outputs.now)
@@ -71,13 +71,13 @@ KeepsOutputs new job (Some outputs) =
 pub record IsRan (row : Row) (old : Option Job) (ran : Ran) : Type 0 where
   pub outcome : ran.outcome ≡ kept row
   pub work : ran.work ≡ work_of (new_job old row.job)
-  pub bounded : AreBounded (outputs_in row.state)
+  pub bounded : AreBounded (done_outputs row.state)
   pub one : ran.work.runs ≤ 1
   pub cheap : ran.work.steps ≤ most_steps
 
 -- the counter rose by the steps of the work; where memory ran out, by none
 abbrev pub CountsRun : {E : Type 0} → Result Ran E → ℕ → ℕ → Type 0
-CountsRun r before now = MatchResult r (λ ran. now ≡ before + ran.work.steps) (λ _. now ≡ before)
+CountsRun r planned_before now = MatchResult r (λ ran. now ≡ planned_before + ran.work.steps) (λ _. now ≡ planned_before)
 
 -- the same, where the first of these outcomes stay
 abbrev pub IsRest :
@@ -87,4 +87,4 @@ IsRest planned old records was r =
 
 abbrev pub IsChainRest : Picks → Old → List (Bor Record) → Rest → Type 0
 IsChainRest picks old items r =
-    IsRest (after picks) (old_jobs picks old) (records_of items) old.outcomes.now r
+    IsRest (planned_after picks) (old_jobs picks old) (records_of items) old.outcomes.now r

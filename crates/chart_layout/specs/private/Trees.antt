@@ -6,7 +6,7 @@ use Rattle.chart_layout.specs.declared.figure.Figure.{Figure}
 use Rattle.chart_layout.specs.declared.choice.Arm.{Arm}
 use Rattle.chart_layout.specs.declared.choice.Choice.{Choice as AnIf, out-Choice}
 use Rattle.chart_layout.specs.declared.figure.Figure.TheFolds.{fold-Figure, fold-Arm, fold-Choice}
-use Rattle.chart_layout.specs.Trees.{Tree, figure_shows, arm_shows, choice_shows, body_shows, stacked, nested, shown, drawing_of}
+use Rattle.chart_layout.specs.Trees.{Tree, figure_shows, arm_shows, choice_shows, body_shows, stacked, nested, shown_tree, drawing_of}
 
 abbrev pub figure_tree : Figure → Tree
 figure_tree = fold-Figure Tree (Tree → Tree) Tree Tree figure_shows arm_shows choice_shows body_shows
@@ -26,4 +26,4 @@ drawing_in n s = drawing_of n (raw_stmt_then s done)
 
 -- what stands on the way `no` of the arm that comes before so many of the later ones
 abbrev pub behind_arms : AnIf → ℕ → Tree
-behind_arms c left = nested (map arm_tree (take left (out-Choice c).later.items)) (shown (out-Choice c).otherwise)
+behind_arms c left = nested (map arm_tree (take left (out-Choice c).later.items)) (shown_tree (out-Choice c).otherwise)

@@ -11,7 +11,7 @@ use Rattle.payroll_records.specs.declared.values.NamedValue.{NamedValue}
 use Rattle.payroll_records.specs.NamedValues.{name_cmp}
 use Rattle.payroll_records.specs.Orders.{key_cmp}
 use Rattle.carry_bindings.specs.Carrying.{named}
-use Rattle.book_year.specs.Rows.{outputs_in}
+use Rattle.book_year.specs.Rows.{done_outputs}
 use Rattle.recalc_engine.specs.MonthRows.{KeyedRow}
 use Rattle.correction_ledger.specs.declared.due.Due.{Due}
 use Rattle.correction_ledger.specs.Months.{is_up_to}
@@ -25,7 +25,7 @@ outputs_or_none o = option_map_or (λ outputs. outputs) o []
 -- the outputs of a run that is up to the month and ok, else none
 abbrev pub outputs_by : Month → KeyedRow → List NamedValue
 outputs_by month row =
-    if is_up_to month row.key.day then outputs_or_none (outputs_in row.state) else []
+    if is_up_to month row.key.day then outputs_or_none (done_outputs row.state) else []
 
 -- an output of a run as an amount
 abbrev pub due_for : Key → NamedValue → Due

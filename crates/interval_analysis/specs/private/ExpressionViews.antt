@@ -5,7 +5,7 @@ use Rattle.pap_tree.specs.Numbering.{nodes}
 use Rattle.pap_tree.specs.Scales.{KeepsScales}
 use Rattle.interval_num.specs.declared.cause.RangeCause.TheVariants.{Wide}
 use Rattle.interval_num.specs.Intervals.{Interval}
-use Rattle.interval_num.specs.Rows.{Answer, join_row}
+use Rattle.interval_num.specs.Rows.{RowAnswer, join_row}
 use Rattle.pap_types.specs.declared.kinds.NodeKind.{NodeKind}
 use Rattle.pap_types.specs.Kinds.{kind_of, kind_of_one, kind_of_two, wider}
 use Rattle.pap_types.specs.Scopes.{Scope}
@@ -83,18 +83,18 @@ OperandsAnswer w t u at rs (Ok o) = AreRanged w t u at rs o
 OperandsAnswer w t u at rs (Err stop) = StopsAs (second_in w t u at rs) stop
 
 -- the same of a node by what its operation answers, and by the number of the variable that it names
-pub record IsNode (number : Option ℕ) (answer : Answer) (k : NodeKind) (at : ℕ) (r : Ranged) : Type 0 where
+pub record IsNode (number : Option ℕ) (answer : RowAnswer) (k : NodeKind) (at : ℕ) (r : Ranged) : Type 0 where
   pub range : at_node at answer ≡ Ok r.range
   pub kind : r.kind ≡ k
   pub next : r.next ≡ at + 1
   pub variable : r.variable ≡ number
 
-abbrev pub NodeAnswer : Option ℕ → Answer → NodeKind → ℕ → Result Ranged Stop → Type 0
+abbrev pub NodeAnswer : Option ℕ → RowAnswer → NodeKind → ℕ → Result Ranged Stop → Type 0
 NodeAnswer number answer k at (Ok r) = IsNode number answer k at r
 NodeAnswer number answer k at (Err stop) = StopsAs (at_node at answer) stop
 
 -- that of a node that is no name
-abbrev pub OwnAnswer : Answer → NodeKind → ℕ → Result Ranged Stop → Type 0
+abbrev pub OwnAnswer : RowAnswer → NodeKind → ℕ → Result Ranged Stop → Type 0
 OwnAnswer answer k at r = NodeAnswer None answer k at r
 
 -- that of an operation on one operand, and on two, the right one being f
@@ -126,7 +126,7 @@ PartAnswer w t at o (Ok p) = IsPartRanged w t at o p
 PartAnswer w t at o (Err stop) = StopsAs (part_ranged w t at o) stop
 
 -- the range of what can be reached of two parts
-abbrev pub either_range : Option Interval → Option Interval → Answer
+abbrev pub either_range : Option Interval → Option Interval → RowAnswer
 either_range None None = Err Wide
 either_range (Some a) None = Ok a
 either_range None (Some b) = Ok b

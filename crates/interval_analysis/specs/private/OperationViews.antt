@@ -11,10 +11,10 @@ use Rattle.pap_tree.specs.declared.expression.Call.TheVariants.{DivideExact}
 use Rattle.interval_num.specs.declared.cause.RangeCause.TheVariants.{Wide}
 use Rattle.interval_num.specs.Intervals.{Interval, IsWholeOfBits}
 use Rattle.interval_num.specs.Alignment.{unless}
-use Rattle.interval_num.specs.Rows.{Answer}
+use Rattle.interval_num.specs.Rows.{RowAnswer}
 
 -- a range that is read as that of whole numbers, whose ends fit or not
-abbrev pub read_fitting : Bool → Interval → Answer
+abbrev pub read_fitting : Bool → Interval → RowAnswer
 read_fitting fits a = unless (not ((a.s_lo == 0) && ((a.s_hi == 0) && fits))) Wide (Ok a)
 
 -- prefix minus takes a whole number of so many bits

@@ -3,10 +3,10 @@ use Rattle.std.specs.Prelude.{◌≡◌, ℕ, ◌<◌, ◌≤◌, suc, pos, unsi
 use Rattle.scaled_decimal.specs.Decimals.{Decimal}
 use Rattle.interval_num.specs.declared.cause.RangeCause.{RangeCause}
 use Rattle.interval_num.specs.Intervals.{Interval}
-use Rattle.interval_num.specs.Rows.{Answer}
+use Rattle.interval_num.specs.Rows.{RowAnswer}
 
 -- what is made of two intervals, where they are there
-abbrev pub with_pair : (Interval → Interval → Answer) → Result (Interval × Interval) RangeCause → Answer
+abbrev pub with_pair : (Interval → Interval → RowAnswer) → Result (Interval × Interval) RangeCause → RowAnswer
 with_pair make (Ok p) = make p.0 p.1
 with_pair make (Err cause) = Err cause
 

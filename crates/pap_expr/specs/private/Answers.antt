@@ -1,7 +1,7 @@
 -- What the reading answers.
 use Rattle.std.specs.Prelude.{◌≡◌, List, [], ◌∷◌, Option, Some, None, Result, Ok, Err, ⊤}
 use Rattle.pap_tree.specs.Term.{term_of}
-use Rattle.pap_tree.specs.Grammar.{Line, Level, Assignment, Meaning, tree, assignment}
+use Rattle.pap_tree.specs.Grammar.{Line, Level, Assignment, LineMeaning, tree, assignment}
 use Rattle.pap_tree.specs.declared.name.Name.{Name}
 use Rattle.expr_grammar.specs.Machine.{Frame, Assigning}
 use Rattle.expr_grammar.specs.Run.{Refusal}
@@ -18,7 +18,7 @@ abbrev pub line_of : Kind → Line
 line_of kinds.Test = Level 0
 line_of kinds.Assignment = Assignment
 
-abbrev pub meaning_of : Reading → Meaning
+abbrev pub meaning_of : Reading → LineMeaning
 meaning_of (readings.Test e) = tree (term_of e)
 meaning_of (readings.Assignment w e) = assignment w (term_of e)
 
@@ -28,11 +28,11 @@ base_of None = []
 base_of (Some w) = Assigning w ∷ []
 
 -- the fault is the refusal; or memory ran out
-abbrev pub Fails : Result Meaning Refusal → ExprFault → Type 0
+abbrev pub Fails : Result LineMeaning Refusal → ExprFault → Type 0
 Fails r faults.Memory = ⊤
 Fails r e = r ≡ Err (refusal_of e)
 
 -- the same meaning or refusal; or memory ran out
-abbrev pub Answers : Result Meaning Refusal → Result Reading ExprFault → Type 0
+abbrev pub Answers : Result LineMeaning Refusal → Result Reading ExprFault → Type 0
 Answers r (Ok x) = r ≡ Ok (meaning_of x)
 Answers r (Err e) = Fails r e

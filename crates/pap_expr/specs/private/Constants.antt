@@ -1,12 +1,12 @@
 -- The states of the reading of a declared literal as the machine's.
 use Rattle.std.specs.Prelude.{◌≡◌, Option, Some, None, Result, Ok, Err}
 use Rattle.pap_tree.specs.Tokens.{Token, Word, Mark, Dot, Open, Close, Spot}
-use Rattle.pap_tree.specs.Grammar.{Meaning, declared}
+use Rattle.pap_tree.specs.Grammar.{LineMeaning, declared}
 use Rattle.pap_tree.specs.Declarations.{declared_of}
 use Rattle.pap_tree.specs.declared.declaration.Literal.{Literal}
 use Rattle.expr_grammar.specs.Machine as machine
 use Rattle.expr_grammar.specs.Machine.{settled}
-use Rattle.expr_grammar.specs.Run.{Refusal, refusal, cause_of}
+use Rattle.expr_grammar.specs.Run.{Refusal, refusal_at, cause_of}
 use Rattle.pap_expr.specs.declared.constant.Room.{Room}
 use Rattle.pap_expr.specs.declared.constant.Room.TheVariants as rooms
 use Rattle.pap_expr.specs.declared.constant.Slot.{Slot}
@@ -55,9 +55,9 @@ GivesNext o f (Ok s) = o ≡ Some (due_of s)
 GivesNext o f (Err e) = Refuses o f e
 
 abbrev pub Moves : machine.State → Spot → Result Due ExprFault → Type 0
-Moves s t r = GivesNext (machine.step s t.token) (refusal (cause_of s t.token) t.at) r
+Moves s t r = GivesNext (machine.step s t.token) (refusal_at (cause_of s t.token) t.at) r
 
--- the declared literal, or the refusal; or memory ran out
-abbrev pub Gives : Result Meaning Refusal → Result Literal ExprFault → Type 0
+-- the declared literal, or the refusal_at; or memory ran out
+abbrev pub Gives : Result LineMeaning Refusal → Result Literal ExprFault → Type 0
 Gives r (Ok v) = r ≡ Ok (declared (declared_of v))
 Gives r (Err e) = Fails r e

@@ -17,7 +17,7 @@ abbrev pub rounded_of : Rounded → machine.Rounded
 rounded_of (roundings.Quotient a b) = machine.dividing (term_of a.value) (term_of b.value)
 rounded_of (roundings.Setting a) = machine.setting (term_of a.value)
 
-abbrev pub job_of : Scaled → List machine.Frame → machine.Job
+abbrev pub job_of : Scaled → List machine.Frame → machine.ScaleUse
 job_of (scalings.Value a) k = machine.valuing (term_of a.value) k
 job_of (scalings.Rounded r) k = machine.rounding (rounded_of r) k
 

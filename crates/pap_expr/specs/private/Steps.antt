@@ -2,7 +2,7 @@
 use Rattle.std.specs.Prelude.{◌≡◌, List, Option, Some, None, Result, Ok, Err, ⊤}
 use Rattle.pap_tree.specs.Tokens.{Spot}
 use Rattle.expr_grammar.specs.Machine as machine
-use Rattle.expr_grammar.specs.Run.{Refusal, refusal, cause_of}
+use Rattle.expr_grammar.specs.Run.{Refusal, refusal_at, cause_of}
 use Rattle.pap_expr.specs.declared.fault.ExprFault.{ExprFault}
 use Rattle.pap_expr.specs.declared.fault.ExprFault.TheVariants as faults
 use Rattle.pap_expr.specs.declared.state.State.{State}
@@ -10,7 +10,7 @@ use Rattle.pap_expr.specs.declared.state.State.TheVariants.{Operand}
 use Rattle.pap_expr.specs.private.Views.{refusal_of}
 use Rattle.pap_expr.specs.private.States.{state_of}
 
--- there is no next state, and the fault is this refusal; or memory ran out
+-- there is no next state, and the fault is this refusal_at; or memory ran out
 abbrev pub Refuses : Option machine.State → Refusal → ExprFault → Type 0
 Refuses o f faults.Memory = ⊤
 Refuses o f e = (o ≡ None) × (refusal_of e ≡ f)
@@ -22,7 +22,7 @@ Leads o f k (Err e) = Refuses o f e
 
 -- the machine's step from a state with a token
 abbrev pub Steps : machine.State → Spot → List machine.Frame → Result State ExprFault → Type 0
-Steps s t k r = Leads (machine.step s t.token) (refusal (cause_of s t.token) t.at) k r
+Steps s t k r = Leads (machine.step s t.token) (refusal_at (cause_of s t.token) t.at) k r
 
 -- an expression is due, for which these frames wait; or memory ran out
 abbrev pub Opens : List machine.Frame → List machine.Frame → Result State ExprFault → Type 0

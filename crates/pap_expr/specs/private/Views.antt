@@ -4,7 +4,7 @@ use Rattle.pap_tree.specs.Names.{is_name}
 use Rattle.pap_tree.specs.Tokens.{Token, Beyond, Word}
 use Rattle.pap_tree.specs.Stopping.{Cause, syntax, unsupported, binary_fraction, number, deep}
 use Rattle.expr_grammar.specs.Machine as machine
-use Rattle.expr_grammar.specs.Run.{Refusal, refusal}
+use Rattle.expr_grammar.specs.Run.{Refusal, refusal_at}
 use Rattle.pap_expr.specs.declared.fault.ExprFault.{ExprFault}
 use Rattle.pap_expr.specs.declared.fault.ExprFault.TheVariants as faults
 use Rattle.pap_expr.specs.declared.words.Method.{Method}
@@ -30,12 +30,12 @@ holder_view holders.RoundingMode = machine.the_mode
 
 -- why and where; where memory ran out this says nothing
 abbrev pub refusal_of : ExprFault → Refusal
-refusal_of (faults.Syntax n) = refusal syntax n
-refusal_of (faults.Unsupported n) = refusal unsupported n
-refusal_of (faults.BinaryFraction n) = refusal binary_fraction n
-refusal_of (faults.Number n) = refusal number n
-refusal_of (faults.Deep n) = refusal deep n
-refusal_of faults.Memory = refusal syntax 0
+refusal_of (faults.Syntax n) = refusal_at syntax n
+refusal_of (faults.Unsupported n) = refusal_at unsupported n
+refusal_of (faults.BinaryFraction n) = refusal_at binary_fraction n
+refusal_of (faults.Number n) = refusal_at number n
+refusal_of (faults.Deep n) = refusal_at deep n
+refusal_of faults.Memory = refusal_at syntax 0
 
 -- why a token is refused that isn't allowed where it stands, whatever stands before it
 abbrev pub plain_cause : Token → Cause

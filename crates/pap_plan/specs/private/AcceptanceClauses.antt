@@ -7,12 +7,12 @@ use Rattle.pap_types.specs.Checks.{type_fault}
 use Rattle.pap_plan.specs.declared.refusal.PlanRefusal.{PlanRefusal}
 use Rattle.pap_plan.specs.declared.refusal.PlanRefusal.TheVariants as refusals
 use Rattle.pap_plan.specs.Bindings.{unmatched_name, HasSuitedLimit, IsFirstUnsuited, unbound_input}
-use Rattle.pap_plan.specs.AcceptanceClauses.{IsUnread}
+use Rattle.pap_plan.specs.AcceptanceClauses.{IsUnreadPlan}
 
 -- the same, or it is a plan's whose names and kinds aren't right
 abbrev pub IsUntyped : List ℕ → PlanRefusal → Type 0
 IsUntyped plan (refusals.Types fault) = (f : Flowchart) × IsPlan plan f × (type_fault f ≡ Some fault)
-IsUntyped plan r = IsUnread plan r
+IsUntyped plan r = IsUnreadPlan plan r
 
 -- the limits and bindings are those of the plan
 pub record AreMatched (f : Flowchart) (l : Limits) : Type 0 where

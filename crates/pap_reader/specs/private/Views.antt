@@ -19,9 +19,9 @@ use Rattle.pap_reader.specs.Values.{is_quote}
 use Rattle.pap_reader.specs.private.EscapeDecisions.{byte_named}
 use Rattle.pap_reader.specs.Tags.{Attribute, IsAttribute, Ending}
 use Rattle.pap_reader.specs.Skipped.{IsPassed}
-use Rattle.pap_reader.specs.Attributes.{value_of, is_met_by, a_name, a_type}
+use Rattle.pap_reader.specs.Attributes.{attribute_value, is_met_by, a_name, a_type}
 use Rattle.pap_reader.specs.Trees.{raw_declaration_of}
-use Rattle.pap_reader.specs.Meaning.{declared, text_of}
+use Rattle.pap_reader.specs.Meaning.{declared, attribute_text}
 use Rattle.pap_reader.specs.Limits.{is_counted}
 use Rattle.pap_reader.specs.private.CountDecisions.{deeper, tally}
 
@@ -82,10 +82,10 @@ IsValueOf Input attributes v = DeclaresOf (codes "default") attributes v
 IsValueOf Internal attributes v = DeclaresOf (codes "default") attributes v
 IsValueOf Output attributes v = DeclaresOf (codes "default") attributes v
 IsValueOf Constant attributes v = DeclaresOf (codes "value") attributes v
-IsValueOf Method attributes v = IsNamed (text_of (codes "name") attributes) v
-IsValueOf Execute attributes v = IsNamed (text_of (codes "method") attributes) v
-IsValueOf Eval attributes v = IsText (text_of (codes "exec") attributes) v
-IsValueOf If attributes v = IsText (text_of (codes "expr") attributes) v
+IsValueOf Method attributes v = IsNamed (attribute_text (codes "name") attributes) v
+IsValueOf Execute attributes v = IsNamed (attribute_text (codes "method") attributes) v
+IsValueOf Eval attributes v = IsText (attribute_text (codes "exec") attributes) v
+IsValueOf If attributes v = IsText (attribute_text (codes "expr") attributes) v
 IsValueOf _ attributes v = Unit {0}
 
 -- Where the test fails there is nothing, and where it holds there is what the fact says.
@@ -95,8 +95,8 @@ SomeWhere o test P = MatchOption o (test ≡ false) (λ x. (test ≡ true) × P 
 -- the attributes that each declared name needs
 abbrev pub declares : List Kind → List Attribute → Bool
 declares kinds attributes =
-    is_met_by a_name (value_of (codes "name") attributes)
-    && is_met_by (a_type kinds) (value_of (codes "type") attributes)
+    is_met_by a_name (attribute_value (codes "name") attributes)
+    && is_met_by (a_type kinds) (attribute_value (codes "type") attributes)
 
 -- ---- children and counts
 

@@ -12,9 +12,9 @@ use Rattle.pap_reader.specs.Marks.{Mark, begins, marks_of}
 use Rattle.plan_notes.specs.declared.notes.Notes.{Notes}
 use Rattle.plan_notes.specs.Edges.{Edge, edges_by, edges_of}
 use Rattle.plan_notes.specs.Marks.{edge_of, HaveInTurn}
-use Rattle.plan_notes.specs.Contents.{Token, remark, IsToken, HasTokens, items_by, items_of, root_at, root_by, root_of}
+use Rattle.plan_notes.specs.Contents.{Token, remark, IsToken, HasTokens, items_by, items_told, root_at, root_by, root_of}
 use Rattle.plan_notes.specs.private.Contents.{comment_with}
-use Rattle.plan_notes.specs.Notes.{lines_of, noted, SaysOfRoot}
+use Rattle.plan_notes.specs.Notes.{comment_items, noted, SaysOfRoot}
 
 -- the tags begin before a place, in order, and have the comments before a number
 pub record AreKept (notes : Notes) (first place : ℕ) : Type 0 where
@@ -65,7 +65,7 @@ pub record SameRoot (old new : Notes) : Type 0 where
 pub record AddsComment (old new : List (String Global)) (inside : List ℕ) : Type 0 where
   pub more : List (String Global)
   pub grown : new ≡ old ++ more
-  pub lines : lines_of more ≡ items_by (remark inside)
+  pub lines : comment_items more ≡ items_by (remark inside)
 
 -- a comment is appended, or what stands there is none
 abbrev pub KeepsPassed : Notes → Notes → List ℕ → Type 0
@@ -105,5 +105,5 @@ TellsMore old first new next at bytes rest =
 pub record HasTold (file left : List ℕ) (notes : Notes) (first : ℕ) : Type 0 where
   pub tokens : List Token
   pub read : HasTokens file tokens left
-  pub told : noted notes first ≡ items_of tokens
+  pub told : noted notes first ≡ items_told tokens
   pub root : SaysOfRoot notes (root_of tokens)

@@ -7,7 +7,8 @@ use Rattle.csv.specs.declared.writer.Writer.{Writer}
 use Rattle.csv.specs.declared.writer.WriterBuilder.{WriterBuilder}
 use Rattle.scaled_decimal.specs.PlainTexts.{plain_text}
 use Rattle.payroll_records.specs.declared.values.NamedValue.{NamedValue}
-use Rattle.report_csv.specs.Reports.{Text, row_line}
+use Rattle.payroll_records.specs.Tables.{Text}
+use Rattle.report_csv.specs.Reports.{row_line}
 
 -- the row of an output, behind the text of its first five fields
 abbrev pub output_line : Text → NamedValue → Text

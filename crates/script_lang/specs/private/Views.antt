@@ -5,7 +5,7 @@ use Rattle.payroll_records.specs.Tables.{Text}
 use Rattle.script_lang.specs.Commands.{asked_of}
 use Rattle.script_lang.specs.Fields.{Field, IsGood, fault_of}
 use Rattle.script_lang.specs.Lines as lines
-use Rattle.script_lang.specs.Lines.{Ask, AreWrong, IsFirstFault, takes, fields_of}
+use Rattle.script_lang.specs.Lines.{Ask, AreWrong, IsFirstFault, takes_words, fields_of}
 use Rattle.script_lang.specs.declared.command.Command.{Command}
 use Rattle.script_lang.specs.declared.fault.LineFault.{LineFault}
 use Rattle.script_lang.specs.declared.fault.LineFault.TheVariants as fault
@@ -50,6 +50,6 @@ BreaksIn fields other = IsFirstFault fields other
 
 -- what is wrong with the words behind a command's first
 abbrev pub IsFaultOf : lines.Verb → List Text → LineFault → Type 0
-IsFaultOf verb rest fault.Words = takes verb rest ≡ false
+IsFaultOf verb rest fault.Words = takes_words verb rest ≡ false
 IsFaultOf verb rest (fault.Memory error) = ⊤
-IsFaultOf verb rest other = IsTrue (takes verb rest) × IsFirstFault (fields_of verb rest) other
+IsFaultOf verb rest other = IsTrue (takes_words verb rest) × IsFirstFault (fields_of verb rest) other

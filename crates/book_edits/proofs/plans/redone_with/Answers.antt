@@ -1,7 +1,7 @@
 use Rattle.std.proofs.Common.{sym}
 use Rattle.plan_calendar.specs.Picking.{Entry, with_entry}
 use Rattle.book_year.specs.Accepted.{Accepted, accepted, plans_in}
-use Rattle.book_year.specs.Picks.{before, after}
+use Rattle.book_year.specs.Picks.{planned_before, planned_after}
 use Rattle.book_edits.proofs.PlanLemmas.{after_put, same_years, redone_for, cost_for, plans_rise}
 use Rattle.book_edits.proofs.plans.redone_with.Goals as goal
 
@@ -14,13 +14,13 @@ returns-clause-done g c =
     let plans = plans_in c.args.plans.now in
     let picks = c.edited-picks.result in
     let e : Entry Accepted = (c.args.day, accepted c.args.plan.now) in
-    let new = after_put plans e (after picks) (plans_rise c.args.plans.now c.requires.entries.rising) c.edited-picks.ensures.after in
-    redone_for (before picks) (after picks) plans (with_entry e plans) c.edited-picks.ensures.before new c.args.years.now c.redo_years.result c.redo_years.ensures.done
+    let new = after_put plans e (planned_after picks) (plans_rise c.args.plans.now c.requires.entries.rising) c.edited-picks.ensures.after in
+    redone_for (planned_before picks) (planned_after picks) plans (with_entry e plans) c.edited-picks.ensures.before new c.args.years.now c.redo_years.result c.redo_years.ensures.done
 
 pub returns-clause-counted : goal.returns-clause-counted
 returns-clause-counted g c =
     let plans = plans_in c.args.plans.now in
     let picks = c.edited-picks.result in
     let e : Entry Accepted = (c.args.day, accepted c.args.plan.now) in
-    let new = after_put plans e (after picks) (plans_rise c.args.plans.now c.requires.entries.rising) c.edited-picks.ensures.after in
-    rw (← cost_for (before picks) (after picks) plans (with_entry e plans) c.edited-picks.ensures.before new c.args.years.now) c.redo_years.ensures.counted
+    let new = after_put plans e (planned_after picks) (plans_rise c.args.plans.now c.requires.entries.rising) c.edited-picks.ensures.after in
+    rw (← cost_for (planned_before picks) (planned_after picks) plans (with_entry e plans) c.edited-picks.ensures.before new c.args.years.now) c.redo_years.ensures.counted

@@ -2,13 +2,13 @@ use Rattle.std.proofs.Common.{[], ap, arith, length}
 use Rattle.std.proofs.lemmas.List.{length-map}
 use Rattle.book_year.specs.Rows.{year_rows}
 use Rattle.book_year.specs.Kept.{kept}
-use Rattle.book_year.specs.Picks.{before}
+use Rattle.book_year.specs.Picks.{planned_before}
 use Rattle.book_year.proofs.OldLemmas.{rows_length}
 use Rattle.book_year.proofs.chain.recalculate.Goals as goal
 
 pub copied-requires : goal.copied-requires
 copied-requires g c =
-    let p = before c.args.picks.now in
+    let p = planned_before c.args.picks.now in
     let rs = c.args.old.records.now in
     omega (arith, c.requires.front.within, ap length c.requires.old.are, length-map (year_rows p rs) kept, rows_length p [] rs)
 

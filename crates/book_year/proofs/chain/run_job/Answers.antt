@@ -4,12 +4,12 @@ use Rattle.carry_bindings.specs.Conditions.{AreBounded}
 use Rattle.pay_run.specs.RunClauses.{HasRun}
 use Rattle.book_year.specs.Accepted.{accepted}
 use Rattle.book_year.specs.Jobs.{work_of}
-use Rattle.book_year.specs.Picks.{picked_entry}
+use Rattle.book_year.specs.Picks.{picked_plan}
 use Rattle.book_year.proofs.chain.run_job.Goals as goal
 
 pub returns-in-Some-clause-ran : goal.returns-in-Some-clause-ran
 returns-in-Some-clause-ran g c = λ was job day knows is.
-    let k = c.in-Some.ensures was job (picked_entry c.args.picked) knows is in
+    let k = c.in-Some.ensures was job (picked_plan c.args.picked) knows is in
     record {
       outcome = rw (c.finished.ensures, c.in_ok-outputs.ensures, k.1);
       work = ap work_of (sym k.0);
@@ -20,7 +20,7 @@ returns-in-Some-clause-ran g c = λ was job day knows is.
 
 pub returns-clause-ran : goal.returns-clause-ran
 returns-clause-ran g c = λ was job day knows is.
-    let k = c.in_default.ensures was job (picked_entry c.args.picked) knows is in
+    let k = c.in_default.ensures was job (picked_plan c.args.picked) knows is in
     let ran = subst (λ l. HasRun (accepted c.args.picked.plan.now) l c.in_ok-ran.ran) c.as_slice.ensures c.in_ok-ran.ensures.ran in
     record {
       outcome = rw (c.finished-2.ensures, ran.outputs);

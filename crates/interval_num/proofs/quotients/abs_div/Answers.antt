@@ -5,7 +5,7 @@ use Rattle.scaled_decimal.specs.WorkingNumbers.{QuotientFits}
 use Rattle.scaled_decimal.specs.Limits.{IsWithinLimit}
 use Rattle.interval_num.specs.declared.cause.RangeCause.TheVariants.{Wide, Divisor}
 use Rattle.interval_num.specs.Alignment.{unless, has_zero, hull, corners}
-use Rattle.interval_num.specs.Rows.{Answer, quotient_is_wide, end_quotient}
+use Rattle.interval_num.specs.Rows.{RowAnswer, quotient_is_wide, end_quotient}
 use Rattle.interval_num.proofs.AlignmentLemmas.{unless_passes}
 use Rattle.interval_num.proofs.CornerLemmas.{all_four}
 use Rattle.interval_num.proofs.MachineLemmas.{held, held_is}
@@ -63,7 +63,7 @@ returns-clause-exact c =
     let q1 = held_is c.rounded_quotient-2.result c.rounded_quotient-2.ensures.kept ∙ c.rounded_quotient-2.ensures.value ∙ ap₂ (λ m n. numerator_of (quotient c.args.mode c.args.s m n)) c.low-3.ensures.value c.high.ensures.value in
     let q2 = held_is c.rounded_quotient-3.result c.rounded_quotient-3.ensures.kept ∙ c.rounded_quotient-3.ensures.value ∙ ap₂ (λ m n. numerator_of (quotient c.args.mode c.args.s m n)) c.high-2.ensures.value c.low-4.ensures.value in
     let q3 = held_is c.rounded_quotient-4.result c.rounded_quotient-4.ensures.kept ∙ c.rounded_quotient-4.ensures.value ∙ ap₂ (λ m n. numerator_of (quotient c.args.mode c.args.s m n)) c.high-3.ensures.value c.high-4.ensures.value in
-    let answer : Answer = Ok (hull (corners (end_quotient c.args.mode c.args.s a b) a b) c.args.s c.args.s) in
+    let answer : RowAnswer = Ok (hull (corners (end_quotient c.args.mode c.args.s a b) a b) c.args.s c.args.s) in
     let row = unless_passes (has_zero b) Divisor (unless (quotient_is_wide c.args.s a b) Wide answer) (sym c.if-has_zero.ensures) ∙ unless_passes (quotient_is_wide c.args.s a b) Wide answer (sym c.if-quotient_is_wide.ensures) in
     cc (row, c.hull.ensures, q0, q1, q2, q3)
 

@@ -6,9 +6,9 @@ use Rattle.scaled_decimal.specs.Decimals.{numerator_of, scale_of}
 use Rattle.scaled_decimal.specs.Limits.{most_places}
 use Rattle.interval_num.specs.declared.cause.RangeCause.TheVariants.{Wide, Scale}
 use Rattle.interval_num.specs.Intervals.{interval}
-use Rattle.interval_num.specs.Alignment.{is_beyond, kept}
+use Rattle.interval_num.specs.Alignment.{is_beyond, within_limit}
 use Rattle.interval_num.specs.PlainDivisors.{divisor_places, cofactor}
-use Rattle.interval_num.specs.Rows.{Answer}
+use Rattle.interval_num.specs.Rows.{RowAnswer}
 use Rattle.interval_num.proofs.AlignmentLemmas.{unless_passes}
 use Rattle.interval_num.proofs.MachineLemmas.{held, held_is}
 use Rattle.interval_num.proofs.DivisorLemmas.{places_are, cofactor_above, exact_quotient_sound}
@@ -29,8 +29,8 @@ returns-clause-exact c =
     let few : nat_lt most_places (a.s_hi + k) ≡ false = rw (← places) (grind (arith, nat_tests, c.if-s_hi-gt-MOST_PLACES.false)) in
     let small = ap (λ g. is_beyond (a.lo *ℤ g) || is_beyond (a.hi *ℤ g)) (sym factor) ∙ sym c.if-ends_beyond_times.ensures in
     let wide = interval (a.lo *ℤ f) (a.hi *ℤ f) a.s_lo (a.s_hi + k) in
-    let answer : Answer = Ok wide in
-    let row = unless_passes (nat_lt most_places (a.s_hi + k)) Scale (kept wide) few ∙ unless_passes (is_beyond (a.lo *ℤ f) || is_beyond (a.hi *ℤ f)) Wide answer small in
+    let answer : RowAnswer = Ok wide in
+    let row = unless_passes (nat_lt most_places (a.s_hi + k)) Scale (within_limit wide) few ∙ unless_passes (is_beyond (a.lo *ℤ f) || is_beyond (a.hi *ℤ f)) Wide answer small in
     cc (row, c.times.ensures.value, factor, places)
 
 pub returns-clause-sound : goal.returns-clause-sound

@@ -4,7 +4,7 @@ use Rattle.scaled_decimal.specs.WholeNumbers.{IsOfBits}
 use Rattle.scaled_decimal.specs.Limits.{IsWithinLimit}
 use Rattle.interval_num.specs.declared.cause.RangeCause.TheVariants.{Wide}
 use Rattle.interval_num.specs.Alignment.{hull}
-use Rattle.interval_num.specs.Rows.{Answer}
+use Rattle.interval_num.specs.Rows.{RowAnswer}
 use Rattle.interval_num.specs.private.Widths.{bits_of}
 use Rattle.interval_num.proofs.AlignmentLemmas.{unless_passes}
 use Rattle.interval_num.proofs.WholeLemmas.{all_of_bits}
@@ -16,6 +16,6 @@ hull-requires-clause-kept c = All-weaker (IsOfBits (bits_of c.args.width)) IsWit
 
 pub returns : goal.returns
 returns c =
-    let answer : Answer = Ok (hull c.args.ends.now 0 0) in
+    let answer : RowAnswer = Ok (hull c.args.ends.now 0 0) in
     let row = unless_passes _ Wide answer (ap not (sym c.if-not-are_of_width.ensures)) in
     cc (row, c.hull.ensures)

@@ -3,7 +3,7 @@ use Rattle.std.proofs.lemmas.List.{nil_from_length}
 use Rattle.pap_tree.specs.Grammar.{Assignment}
 use Rattle.expr_tokens.specs.Spots.{spot_of, spots_of}
 use Rattle.expr_grammar.specs.Machine.{Naming}
-use Rattle.expr_grammar.specs.Run.{refusal, run}
+use Rattle.expr_grammar.specs.Run.{refusal_at, run}
 use Rattle.pap_expr.specs.private.Views.{refusal_of, plain_cause}
 use Rattle.pap_expr.specs.private.Answers.{Answers}
 use Rattle.pap_tree.specs.Tokens.{Mark, Equals}
@@ -32,8 +32,8 @@ returns-then-not-is_sign-clause-answer c =
     let second = spot_of c.in-Some-split_first.second.now in
     let more = spots_of c.in-Some-split_first.rest.now in
     let ran = begun ∙ ap (λ ts. run Assignment f (due w) (spots_of ts)) c.in-Some-split_first.ensures.cases.0 ∙ unassigned f second more w (sym c.if-not-is_sign.ensures)
-    ∙ ap (λ g. Err (refusal g second.at)) (due_cause w second.token) in
-    fails (run Assignment f Naming (spots_of c.args.front.now)) c.refused-then-not-is_sign.result (refusal (plain_cause second.token) second.at) ran c.refused-then-not-is_sign.ensures
+    ∙ ap (λ g. Err (refusal_at g second.at)) (due_cause w second.token) in
+    fails (run Assignment f Naming (spots_of c.args.front.now)) c.refused-then-not-is_sign.result (refusal_at (plain_cause second.token) second.at) ran c.refused-then-not-is_sign.ensures
 
 pub returns-clause-answer : goal.returns-clause-answer
 returns-clause-answer c =

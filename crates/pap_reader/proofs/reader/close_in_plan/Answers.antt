@@ -3,7 +3,7 @@ use Rattle.std.proofs.lemmas.Result.{on_ok_weaker}
 use Rattle.pap_reader.specs.declared.element.Element.TheVariants as elements
 use Rattle.pap_reader.specs.declared.elements.RawMethod.{RawMethod}
 use Rattle.pap_reader.specs.Trees.{raw_declaration_of, raw_routine_of, raw_body_of}
-use Rattle.pap_reader.specs.Meaning.{text_of}
+use Rattle.pap_reader.specs.Meaning.{attribute_text}
 use Rattle.pap_reader.proofs.Closings.{plan_arm, kept, name_is, map_one}
 use Rattle.pap_reader.proofs.reader.close_in_plan.Goals as goal
 
@@ -87,6 +87,6 @@ returns-in-Method c =
       constants = kept (map raw_declaration_of c.args.plan.now.constants.items);
       main = λ m g. g;
       methods = ap (map raw_routine_of) c.in_ok-push-in-Method.ensures.items ∙ map_one raw_routine_of c.args.plan.now.methods.items r
-          ∙ ap (λ x. map raw_routine_of c.args.plan.now.methods.items ++ (record { name = x; body = raw_body_of c.args.child.statements.items } ∷ [])) (name_is (text_of (codes "name") attributes) c.args.child.value n c.in-Named.is s)
-          ∙ ap (λ x. map raw_routine_of c.args.plan.now.methods.items ++ (record { name = text_of (codes "name") attributes; body = x } ∷ [])) h.statements;
+          ∙ ap (λ x. map raw_routine_of c.args.plan.now.methods.items ++ (record { name = x; body = raw_body_of c.args.child.statements.items } ∷ [])) (name_is (attribute_text (codes "name") attributes) c.args.child.value n c.in-Named.is s)
+          ∙ ap (λ x. map raw_routine_of c.args.plan.now.methods.items ++ (record { name = attribute_text (codes "name") attributes; body = x } ∷ [])) h.statements;
     })

@@ -2,14 +2,14 @@ use Rattle.std.proofs.Common.{◌≡◌, ◌++◌, ◌-◌, ap, ◌∙◌, codes
 use Rattle.std.specs.Str.{chars}
 use Rattle.std.proofs.lemmas.List.{nil_from_length}
 use Rattle.std.proofs.lemmas.Str.{IsUtf8-past_char}
-use Rattle.range_draft.specs.Draft.{shown_char, front}
+use Rattle.range_draft.specs.Draft.{comment_char, front}
 use Rattle.range_draft.proofs.DraftLemmas.{on_written, front_more, front_end, front_all}
 use Rattle.range_draft.proofs.draft.write_front.Goals as goal
 
 pub returns-then-left-lt4 : goal.returns-then-left-lt4
 returns-then-left-lt4 c =
     let old = string_bytes c.args.text.now in
-    let whole = front c.args.room (map shown_char (chars c.args.comment.now)) in
+    let whole = front c.args.room (map comment_char (chars c.args.comment.now)) in
     let text = string_bytes c.loop-c.text in
     let new = string_bytes c.push_str.new.self in
     on_written c.push_str.result new text (codes "..") (new ≡ old ++ whole) c.push_str.ensures.bytes
@@ -19,7 +19,7 @@ returns-then-left-lt4 c =
 pub loop-c-preserved : goal.loop-c-preserved
 loop-c-preserved c =
     let old = string_bytes c.args.text.now in
-    let whole = front c.args.room (map shown_char (chars c.args.comment.now)) in
+    let whole = front c.args.room (map comment_char (chars c.args.comment.now)) in
     let i = c.loop-c.invariant in
     let step = c.in-Some.ensures.steps.0 in
     record {
@@ -34,6 +34,6 @@ loop-c-preserved c =
 pub returns : goal.returns
 returns c =
     let old = string_bytes c.args.text.now in
-    let whole = front c.args.room (map shown_char (chars c.args.comment.now)) in
+    let whole = front c.args.room (map comment_char (chars c.args.comment.now)) in
     front_all old whole (string_bytes c.loop-c.text) _ c.loop-c.left (nil_from_length _ c.in-None.ensures.steps.0.0)
     c.loop-c.invariant.so_far

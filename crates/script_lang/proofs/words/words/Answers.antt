@@ -2,7 +2,7 @@ use Rattle.std.proofs.Common.{◌++◌, ◌+◌, sym, ap, ◌∙◌, append_asso
 use Rattle.std.proofs.lemmas.List.{take_rest}
 use Rattle.std.proofs.lemmas.Result.{IfOk-weaker}
 use Rattle.script_lang.specs.private.Views.{texts, counted}
-use Rattle.script_lang.specs.Words.{words_of}
+use Rattle.script_lang.specs.Words.{words_in_line}
 use Rattle.script_lang.proofs.SplitLemmas.{first_word, last_word}
 use Rattle.script_lang.proofs.words.words.Goals as goal
 
@@ -18,8 +18,8 @@ words-preserved c =
     let left = take_rest rest (at + 1) in
     record {
       read = c.words.invariant.read ∙ ap (λ v. words ++ v) (first_word rest at c.in-Some.ensures)
-          ∙ sym (append_assoc words (counted (take at rest)) (words_of (drop (at + 1) rest)))
-          ∙ ap (λ v. v ++ words_of (drop (at + 1) rest)) (sym c.in_ok-words-2.ensures)
-          ∙ ap (λ v. texts c.in_ok-words-2.words.items ++ words_of v) (sym left);
+          ∙ sym (append_assoc words (counted (take at rest)) (words_in_line (drop (at + 1) rest)))
+          ∙ ap (λ v. v ++ words_in_line (drop (at + 1) rest)) (sym c.in_ok-words-2.ensures)
+          ∙ ap (λ v. texts c.in_ok-words-2.words.items ++ words_in_line v) (sym left);
       within = omega (arith, c.words.invariant.within, ap length left, length-drop (at + 1) rest);
     }

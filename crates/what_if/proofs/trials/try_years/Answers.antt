@@ -1,7 +1,7 @@
 use Rattle.std.proofs.Common.{◌≡◌, ◌<◌, get_or, length, ap, ◌∙◌, arith}
 use Rattle.std.proofs.lemmas.Result.{err_from_is_err_and}
 use Rattle.book_year.specs.Accepted.{plans_in}
-use Rattle.book_year.specs.Picks.{before, after}
+use Rattle.book_year.specs.Picks.{planned_before, planned_after}
 use Rattle.book_edits.specs.RedoneClauses.{with_new}
 use Rattle.book_edits.proofs.Laws.{out_after, out_in, years_few}
 use Rattle.what_if.proofs.YearLemmas.{has_outcomes, trying_more, year_here}
@@ -37,11 +37,11 @@ push_year-requires-clause-before g c =
     let is : y ≡ get_or ys i y = c.year-item.is ∙ ap (λ t. get_or t i y) c.as_slice-year-items.ensures.value in
     let l : i < length ys = omega (arith, ap length c.as_slice-year-items.ensures.value, c.loop-year-test.true) in
     let here = year_here (plans_in c.args.picks.now.plans.now) ys i y c.requires.years.each l is in
-    has_outcomes (before c.args.picks.now) y c.requires.before here.kept
+    has_outcomes (planned_before c.args.picks.now) y c.requires.before here.kept
 
 pub push_year-requires-clause-after : goal.push_year-requires-clause-after
 push_year-requires-clause-after g c =
-    has_outcomes (after c.args.picks.now) (with_new c.year-item.result c.in_ok-done.done.outcomes) c.requires.after
+    has_outcomes (planned_after c.args.picks.now) (with_new c.year-item.result c.in_ok-done.done.outcomes) c.requires.after
     c.in_ok-done.ensures.done.kept
 
 pub returns-in_err-done-clause-counted : goal.returns-in_err-done-clause-counted
@@ -52,7 +52,7 @@ returns-in_err-done-clause-counted g c =
     let i = c.loop-year.year-index in
     let is : y ≡ get_or ys i y = c.year-item.is ∙ ap (λ t. get_or t i y) c.as_slice-year-items.ensures.value in
     let e = err_from_is_err_and c.from_residual.result c.from_residual.ensures.1 in
-    out_in (before picks) (after picks) ys i _ _ _ _ _ c.loop-year.invariant.redoing c.requires.years.rising y
+    out_in (planned_before picks) (planned_after picks) ys i _ _ _ _ _ c.loop-year.invariant.redoing c.requires.years.rising y
     (omega (arith, ap length c.as_slice-year-items.ensures.value, c.loop-year-test.true)) is
     c.from_residual.result e.0 c.redo_year.result c.in_err-done.field-0.0 c.redo_year.new.steps e.1 c.in_err-done.was
     c.redo_year.ensures.counted
@@ -65,7 +65,7 @@ returns-in_err-push_year-clause-counted g c =
     let i = c.loop-year.year-index in
     let is : y ≡ get_or ys i y = c.year-item.is ∙ ap (λ t. get_or t i y) c.as_slice-year-items.ensures.value in
     let e = err_from_is_err_and c.from_residual-in_err-push_year.result c.from_residual-in_err-push_year.ensures.1 in
-    out_after (before picks) (after picks) ys i _ _ _ _ _ c.loop-year.invariant.redoing c.requires.years.rising y
+    out_after (planned_before picks) (planned_after picks) ys i _ _ _ _ _ c.loop-year.invariant.redoing c.requires.years.rising y
     (omega (arith, ap length c.as_slice-year-items.ensures.value, c.loop-year-test.true)) is
     c.from_residual-in_err-push_year.result e.0 c.redo_year.new.steps e.1 c.in_ok-done.ensures.counted
 
@@ -79,5 +79,5 @@ loop-year-preserved g c =
     let l : i < length ys = omega (arith, ap length c.as_slice-year-items.ensures.value, c.loop-year-test.true) in
     let here = year_here (plans_in picks.plans.now) ys i y c.requires.years.each l is in
     rw c.in_ok-push_year.ensures
-    (trying_more (before picks) (after picks) ys i _ _ _ _ _ c.loop-year.invariant c.requires.years.rising y l is
+    (trying_more (planned_before picks) (planned_after picks) ys i _ _ _ _ _ c.loop-year.invariant c.requires.years.rising y l is
     c.in_ok-done.done c.redo_year.new.steps here.own here.kept c.in_ok-done.ensures.done c.in_ok-done.ensures.counted)

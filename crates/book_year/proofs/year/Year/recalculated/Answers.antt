@@ -3,7 +3,7 @@ use Rattle.std.specs.List.{AllByRecursion}
 use Rattle.book_year.specs.ChainClauses.{old_jobs}
 use Rattle.book_year.specs.Jobs.{Counts, new_jobs, total_cost}
 use Rattle.book_year.specs.Kept.{job_by}
-use Rattle.book_year.specs.Picks.{after, before}
+use Rattle.book_year.specs.Picks.{planned_after, planned_before}
 use Rattle.book_year.specs.Records.{records_of}
 use Rattle.book_year.specs.Rows.{year_rows}
 use Rattle.book_year.proofs.FrontLemmas.{KeepsPlan, front_is}
@@ -23,5 +23,5 @@ returns-clause-counted g c =
     let picks = c.args.picks.now in
     let rs = c.args.self.now.records.items in
     let runs : records_of c.as_slice.result.now ≡ rs = ap records_of c.as_slice.ensures.value ∙ c.in_ok-runs.ensures ∙ c.as_slice-records.ensures.value in
-    subst (λ t. Counts c.recalculate.result c.args.steps.now c.recalculate.new.steps (total_cost (new_jobs (job_by (before picks) t) (year_rows (after picks) rs)))) c.old_of.ensures.records
-    (subst (λ t. Counts c.recalculate.result c.args.steps.now c.recalculate.new.steps (total_cost (new_jobs (old_jobs picks c.old_of.result) (year_rows (after picks) t)))) runs c.recalculate.ensures.counted)
+    subst (λ t. Counts c.recalculate.result c.args.steps.now c.recalculate.new.steps (total_cost (new_jobs (job_by (planned_before picks) t) (year_rows (planned_after picks) rs)))) c.old_of.ensures.records
+    (subst (λ t. Counts c.recalculate.result c.args.steps.now c.recalculate.new.steps (total_cost (new_jobs (old_jobs picks c.old_of.result) (year_rows (planned_after picks) t)))) runs c.recalculate.ensures.counted)

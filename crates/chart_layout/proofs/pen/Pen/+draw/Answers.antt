@@ -4,7 +4,7 @@ use Rattle.chart_layout.specs.declared.choice.Arm.{out-Arm}
 use Rattle.chart_layout.specs.declared.choice.Choice.{out-Choice}
 use Rattle.chart_layout.specs.declared.drawing.Word.TheVariants.{Yes, No}
 use Rattle.chart_layout.specs.Drawn.{drawing_rows, joined_back}
-use Rattle.chart_layout.specs.Trees.{fork, stop, shown}
+use Rattle.chart_layout.specs.Trees.{fork, stop, shown_tree}
 use Rattle.chart_layout.specs.Leads.{at_way, leaving, lines, ways_of}
 use Rattle.chart_layout.specs.private.Drawn.{arm_statements, figure_statements}
 use Rattle.chart_layout.specs.private.Trees.{behind_arms, choice_tree, figure_tree}
@@ -20,7 +20,7 @@ arms-loop-left-init t c =
     let later = (out-Choice choice).later.items in
     let first = (out-Choice choice).first in
     let n = (out-Arm first).test.number in
-    let inside = shown (out-Arm first).then in
+    let inside = shown_tree (out-Arm first).then in
     let rest = behind_arms choice c.len-left.result in
     let all : length later ≤ c.len-left.result = omega (arith, (out-Choice choice).later.ok.0, c.len-left.ensures) in
     let whole : fork n inside rest stop ≡ choice_tree choice = choice_first choice c.len-left.result all in (
@@ -45,7 +45,7 @@ arms-loop-left-preserved t c =
     let left = c.loop-left.left in
     let arm = c.index.result.now in
     let n = (out-Arm arm).test.number in
-    let inside = shown (out-Arm arm).then in
+    let inside = shown_tree (out-Arm arm).then in
     let rest = behind_arms choice (left - 1) in
     let now = c.loop-left.self in
     let exits = c.loop-left.spot.exits.items in
@@ -95,6 +95,6 @@ pub to_rail-returns-clause-leaves : goal.to_rail-returns-clause-leaves
 to_rail-returns-clause-leaves t c =
     if_ok c.leave_branch.result (λ s leaves.
     branch_leaves c.args.is_closing c.args.rail.now.exits.items c.branch-self.new.rail.exits.items c.leave_branch.new.rail.exits.items s.exits.items
-    c.in_ok-end.end.exits.items (leaving (at_way c.args.fork.test Yes ∷ []) (shown c.args.branch.now)) (at_way c.args.fork.test No ∷ [])
+    c.in_ok-end.end.exits.items (leaving (at_way c.args.fork.test Yes ∷ []) (shown_tree c.args.branch.now)) (at_way c.args.fork.test No ∷ [])
     c.in_ok-end.ensures.leaves leaves)
     c.leave_branch.ensures.leaves

@@ -1,7 +1,7 @@
 use Rattle.std.proofs.Common.{◌≡◌, ◌≤◌, ◌++◌, length, map, take, drop}
 use Rattle.chart_layout.specs.declared.choice.Choice.{out-Choice}
-use Rattle.chart_layout.specs.Drawn.{joined, joined_back, drawing_rows, body_statements}
-use Rattle.chart_layout.specs.Trees.{stacked, shown}
+use Rattle.chart_layout.specs.Drawn.{concatenated, joined_back, drawing_rows, body_statements}
+use Rattle.chart_layout.specs.Trees.{stacked, shown_tree}
 use Rattle.chart_layout.specs.Leads.{leaving, lines, ways_of}
 use Rattle.chart_layout.specs.private.Drawn.{figure_statements, arm_statements}
 use Rattle.chart_layout.specs.private.Trees.{figure_tree, choice_tree, behind_arms}
@@ -30,12 +30,12 @@ decreases-arms-loop-left l = l.left
 -- the figures from a number on aren't drawn yet
 abbrev pub invariant-body-loop-i : goal.invariant-body-loop-i
 invariant-body-loop-i l =
-    (statements_in (drawing_rows l.self.parts.items) ++ joined (map figure_statements (drop l.i l.figure-items))
+    (statements_in (drawing_rows l.self.parts.items) ++ concatenated (map figure_statements (drop l.i l.figure-items))
     ≡ statements_in (drawing_rows l.fn.self.parts.items) ++ body_statements l.fn.body)
     × (ways_in (drawing_rows l.self.parts.items) ++ ways_of (stacked (map figure_tree (drop l.i l.figure-items)))
-    ≡ ways_in (drawing_rows l.fn.self.parts.items) ++ ways_of (shown l.fn.body))
+    ≡ ways_in (drawing_rows l.fn.self.parts.items) ++ ways_of (shown_tree l.fn.body))
     × (l.self.leads.items ++ lines l.spot.exits.items (stacked (map figure_tree (drop l.i l.figure-items)))
-    ≡ l.fn.self.leads.items ++ lines l.fn.spot.exits.items (shown l.fn.body))
+    ≡ l.fn.self.leads.items ++ lines l.fn.spot.exits.items (shown_tree l.fn.body))
     × Leaves (end_behind l.i (length l.figure-items) l.end) l.fn.rail.exits.items l.rail.exits.items
     (leaving l.spot.exits.items (stacked (map figure_tree (drop l.i l.figure-items))))
-    (leaving l.fn.spot.exits.items (shown l.fn.body))
+    (leaving l.fn.spot.exits.items (shown_tree l.fn.body))
