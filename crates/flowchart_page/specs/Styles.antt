@@ -45,7 +45,7 @@ style_lines =
     codes ".s.bad rect:not(.x){fill:var(--badbg);stroke:var(--bad);stroke-width:1.5}.s.bad text{fill:var(--bad)}.s.bad .x,.d.bad,.t.bad{fill:var(--badbg);stroke:var(--bad);stroke-width:2}" ∷
     codes ".s,.m{scroll-margin-top:24px}.s:target text{fill:var(--link);font-weight:700}.s.bad:target text{fill:var(--bad)}" ∷
     codes ".run table{display:inline-table;width:auto;vertical-align:top;margin:0 40px 12px 0}.run caption{text-align:left;font-weight:600;padding:0 0 4px}.run td{text-align:right}.run td:nth-child(3){text-align:left;color:var(--mute)}" ∷
-    codes "ol.run{max-height:30em;overflow:auto;margin:4px 0 12px;padding:0 0 0 4.5em;border:1px solid var(--rule);font-size:13px;line-height:1.7}ol.run span{color:var(--mute);font-size:12px}ol.run em{font-style:normal;font-weight:700;color:var(--ran);margin:0 6px;font-family:ui-monospace,\"DejaVu Sans Mono\",Menlo,Consolas,monospace;font-size:12.5px}li:target{outline:2px solid var(--ran)}" ∷
+    codes "#run h3{font-family:inherit}ol.run{max-height:30em;overflow:auto;margin:4px 0 12px;padding:0 0 0 4.5em;border:1px solid var(--rule);font-size:13px;line-height:1.7}ol.run span{color:var(--mute);font-size:12px}ol.run em{font-style:normal;font-weight:700;color:var(--ran);margin:0 6px;font-family:ui-monospace,\"DejaVu Sans Mono\",Menlo,Consolas,monospace;font-size:12.5px}li:target{outline:2px solid var(--ran)}" ∷
     codes ".blocked{border-left:4px solid var(--bad);padding:4px 10px}" ∷
     codes ".traced :is(.s,.b,.d,.l,.a,.y,.e):not(.ran){opacity:.45}.b.ran,.d.ran,.s.ran .x,.s.ran .xx{stroke:var(--ran);stroke-width:1.8}.l.ran{stroke:var(--ran);stroke-width:2.4}.a.ran{fill:var(--ran)}svg .v{fill:var(--ran);font-weight:700}svg .y.ran,svg .e.ran{fill:var(--ran);font-weight:700}.s.ran a .p{fill:var(--link);text-decoration:underline}" ∷
     codes "@media (min-width:1150px){.cols{display:grid;grid-template-columns:200px minmax(0,1fr);gap:32px}nav{position:sticky;top:0;align-self:start;max-height:100vh;overflow:auto;padding-bottom:20px}nav ul{columns:auto}}" ∷
