@@ -3,6 +3,9 @@
 //! A run's job is the two texts of its plan and its inputs. The runs of a year are one chain, since a run may read the
 //! outputs of earlier ones: they are computed anew in order of day, and a run whose job is the old one of its day keeps
 //! its outputs.
+//!
+//! An edit fills from the first changed day on; what earlier runs came to is kept. Where no flowchart from there on
+//! carries an input over, no outputs are copied for later runs to read.
 #![tactic(auto)]
 
 mod chain;

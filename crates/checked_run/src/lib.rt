@@ -1,4 +1,6 @@
 //! The run of a plan on any inputs of its types: the values at its end, or the first node that fails, with its cause.
+//!
+//! The tree is run, with a test before each operation.
 #![tactic(auto)]
 
 mod cause;

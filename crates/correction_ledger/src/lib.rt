@@ -1,4 +1,7 @@
 //! Filings of a book's outputs: what was filed stays filed, and what changes afterwards is owed, once.
+//!
+//! Beside the entries stand their sums by key and name, so that a filing merges the book's rows with these and doesn't
+//! go over what was filed before. It takes all memory before the entries are appended.
 #![tactic(auto)]
 
 mod balances;

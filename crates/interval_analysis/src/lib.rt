@@ -1,4 +1,11 @@
 //! The ranges of a plan's values: whether every run on admitted inputs is safe, and within which ranges its outputs lie.
+//!
+//! The walk is that of `interval_walk`, with the variables' ranges in an array by number. What a branch changes is
+//! noted with what it replaced, so that the branch can be left as it was entered; where two branches meet only what is
+//! noted is joined, in place (`joins.rt`). The parts of `&&`, `||` and a conditional are walked on the same array, and
+//! their changes taken back at the end. A variable's name is looked up by its first 16 bytes as one number. Asked by
+//! `survey`, the walk keeps each statement to which it comes, the least range of what each EVAL puts over all visits,
+//! and which exits of each IF are open.
 #![tactic(auto)]
 
 mod analysis;

@@ -1,5 +1,7 @@
 //! The walk of a plan over ranges of its variables: its definitions, and the law that every admitted input is safe where it
 //! passes.
+//!
+//! The functions have empty bodies: their contracts are laws, the soundness of the walk among them.
 #![tactic(auto)]
 
 mod soundness;

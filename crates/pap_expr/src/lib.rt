@@ -1,4 +1,8 @@
 //! Expressions of the flowchart: from their text to their tree.
+//!
+//! The parser's contracts are steps of the machine of `expr_grammar`. If it is asked (`parse_expr_placed`), a trail
+//! that follows the same reading tells where the nodes stand: beside each frame of the parser's stack it keeps the byte
+//! at which the frame's text begins, and it notes a node's bytes when its last token is read.
 #![tactic(auto)]
 
 mod constant;

@@ -1,7 +1,9 @@
 //! Reads the elements of a plan's file, each with the texts of its attributes.
 //!
-//! The file is read once, from left to right, with a stack of open elements. What an element text is stands in
-//! `specs/Elements.antt`: tokens, their nesting after a table of elements, their attributes, and the tree that they say.
+//! The file is read once, from left to right, a token at a time; the open elements stand on a stack, each with its children so
+//! far. Time and memory are linear in the file, but for the names of one tag's attributes. `pap_expr` reads the texts of
+//! attributes later. What an element text is stands in `specs/Elements.antt`: tokens, their nesting after a table of elements,
+//! their attributes, and the tree that they say.
 //!
 //! What may stand at a place is decided by the tags before it, attributes aside, so a tag is refused for its place
 //! before its attributes are looked at. The names of a tag's attributes are kept in order, not by hashes: the

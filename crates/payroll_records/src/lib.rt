@@ -1,4 +1,10 @@
 //! Payroll records: who was paid on which day, from which named values, and the tables that list them.
+//!
+//! Values stand in order of their names' bytes, with a list of which name was given after which, in a line or a header,
+//! that runs with the same names share.
+//!
+//! The cells of a table's row are read once, from left to right; the first that is neither empty nor a number ends the
+//! reading. Then the numbers are put in order of their names.
 #![tactic(auto)]
 
 mod day;

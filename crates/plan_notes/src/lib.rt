@@ -1,4 +1,7 @@
 //! The tags of a plan's file: where each begins, the comments before it, and the attributes in it.
+//!
+//! The tokens are read by the functions of `pap_reader`; what is kept is the comments and where each element begins and
+//! ends.
 #![tactic(auto)]
 
 mod attributes;

@@ -1,5 +1,8 @@
 //! The incremental book: pay runs and plans, and what each run came to, which is at any time what computing every run anew
 //! gives. An edit runs as many runs as have a new job.
+//!
+//! The years of all employees stand in one list, in order of employee and year. Plans are lent below the book and never
+//! dropped there.
 #![tactic(auto)]
 
 mod book;

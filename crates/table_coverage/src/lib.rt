@@ -1,4 +1,6 @@
 //! To which statements and exits of a flowchart the runs of a table came.
+//!
+//! The runs of the table are loaded into a book of their own, and `run_coverage` counts over it.
 #![tactic(auto)]
 
 mod book;
