@@ -53,9 +53,12 @@ def try_ends(count):
 
 
 def interrupted(words, folder):
-    """The status of a command that is interrupted at once, and what it says; it waits for a table."""
+    """The status of a command that is interrupted at once, and what it says; it waits for a table. A command inherits that interrupts are
+    ignored, as they are where the trials run in the background, so they aren't while it begins."""
     os.mkfifo("table.fifo")
+    before = signal.signal(signal.SIGINT, signal.default_int_handler)
     running = subprocess.Popen(words, stdout=subprocess.PIPE, stderr=subprocess.PIPE, encoding="utf-8", env=ENVIRONMENT)
+    signal.signal(signal.SIGINT, before)
     while not glob.glob(f"{folder}.*.tmp") and running.poll() is None:
         time.sleep(0.05)
     running.send_signal(signal.SIGINT)
