@@ -1,7 +1,7 @@
 -- Steps of what is kept of the statements to which a walk comes.
 use Rattle.std.proofs.Common.{◌≡◌, ◌≢◌, ℕ, zero, suc, ◌+◌, ◌-◌, List, Bool, true, false, cond, if◌then◌else◌, Option, Some, None, Result, Ok, Err, ◌⊎◌, inl, inr, refl, sym, ap, ◌∙◌, subst, arith, Vec, Global}
 use Rattle.std.specs.Prelude.{◌↔◌, IsTrue, is_some, IsSome, IsSomeAnd, IsOkAnd, IfSome, OnOk}
-use Rattle.std.specs.BTreeMap.{get}
+use Rattle.std.specs.BTreeMap.{BTreeMap, get}
 use Rattle.std.specs.BTreeSet.{BTreeSet, contains}
 use Rattle.std.specs.Ordering.{is_eq, nat_cmp, bool_cmp}
 use Rattle.std.specs.Cmp.{nat_cmp_total, bool_cmp_total}
@@ -45,8 +45,8 @@ use Rattle.interval_analysis.specs.private.StatementViews.{calls_in, first_spot,
 use Rattle.rising_lists.proofs.Laws.{first_tie, second_tie, text_same, tied}
 use Rattle.interval_walk.specs.Visits.{Visit, BodyComes, CallsCome, WalkComes, Execution, IsVisited, IsPutWithin, PutsValue, TakesExit}
 use Rattle.interval_analysis.specs.Surveys.{StatementPlace, place_cmp, IsOneOf, IsVisitedBy, value_range, IsLeastRange, IsLeastOf, PutsAt, IsPutBy, HasValue, ExitPlace, exit_statement, exit_cmp, IsExitOf, OpensAt, IsOpenBy}
-use Rattle.interval_analysis.specs.private.VisitViews.{IsNothing, SaysKnown, AddsThese, AddsVisits, GathersIn, place_in, AddsPlace, AddsRange, AddsExit, AddsEval, AddsIf, ComesIn, ComesInBoth, ComesInCall, ComesInLists}
-use Rattle.interval_analysis.proofs.RangeLemmas.{value_within, value_inside, least_as, least_stays, least_then}
+use Rattle.interval_analysis.specs.private.VisitViews.{IsNothing, SaysKnown, AddsThese, AddsVisits, GathersIn, place_in, PutsInPlace, AddsPlace, AddsRange, AddsExit, AddsEval, AddsIf, ComesIn, ComesInBoth, ComesInCall, ComesInLists}
+use Rattle.interval_analysis.proofs.RangeLemmas.{value_within, value_inside, least_as, least_known, least_unknown, least_stays, least_then}
 
 -- ---- what is kept
 
@@ -210,47 +210,69 @@ exit_shut spot holds is_open was shut = record {
   exits = λ q. added_either stays (λ h. absurd (false≢true (sym shut ∙ h.2)), λ n. absurd n);
 }
 
-pub range_added : (spot : Spot) (range kept : ValueRange) (was now : Known) → ((q : StatementPlace) → get place_cmp now.values q ≡ cond (is_eq (place_cmp (place_in spot) q)) (Some kept) (get place_cmp was.values q)) → now.reached ≡ was.reached → now.exits ≡ was.exits
-    → IsLeastRange (λ r. (get place_cmp was.values (place_in spot) ≡ Some r) ⊎ (range ≡ r)) kept → AddsRange spot range was now
-range_added spot range kept was now updated reached exits least = record {
+-- a range at a statement's place, with what was known there
+module _ (place : StatementPlace) (range kept : ValueRange) (was now : BTreeMap StatementPlace ValueRange) where
+  range_put : ((q : StatementPlace) → get place_cmp now q ≡ cond (is_eq (place_cmp place q)) (Some kept) (get place_cmp was q))
+      → IsLeastRange (λ r. (get place_cmp was place ≡ Some r) ⊎ (range ≡ r)) kept → PutsInPlace place range was now
+  range_put updated least p = by_place p (is_eq (place_cmp place p)) refl (updated p)
+    where
+      Known_at : StatementPlace → ValueRange → Type 0
+      Known_at p r = (get place_cmp was p ≡ Some r) ⊎ ((place ≡ p) × (range ≡ r))
+
+      here : IsLeastOf (Known_at place) (Some kept)
+      here = least_as (λ r. (get place_cmp was place ≡ Some r) ⊎ (range ≡ r)) (Known_at place) (Some kept) (λ r. (to r, from r)) least
+        where
+          to : (r : ValueRange) → Known_at place r → (get place_cmp was place ≡ Some r) ⊎ (range ≡ r)
+          to r (inl e) = inl e
+          to r (inr e) = inr e.1
+
+          from : (r : ValueRange) → (get place_cmp was place ≡ Some r) ⊎ (range ≡ r) → Known_at place r
+          from r (inl e) = inl e
+          from r (inr e) = inr (refl, e)
+
+      by_place : (p : StatementPlace) (b : Bool) → is_eq (place_cmp place p) ≡ b → get place_cmp now p ≡ cond b (Some kept) (get place_cmp was p) → IsLeastOf (Known_at p) (get place_cmp now p)
+      by_place p true e u = subst (IsLeastOf (Known_at p)) (sym u) (subst (λ p. IsLeastOf (Known_at p) (Some kept)) (same_place place p (tied (place_cmp place p) e)) here)
+      by_place p false e u =
+          subst (IsLeastOf (Known_at p)) (sym u)
+          (least_as (λ r. (get place_cmp was p ≡ Some r) ⊎ ⊥) (Known_at p) (get place_cmp was p) (λ r. (to r, from r)) (least_stays (get place_cmp was p)))
+        where
+          other : place ≡ p → ⊥
+          other k = (let own : is_eq (place_cmp place p) ≡ true = subst (λ p. is_eq (place_cmp place p) ≡ true) k (ap is_eq (own_place place)) in absurd (cc))
+
+          to : (r : ValueRange) → Known_at p r → (get place_cmp was p ≡ Some r) ⊎ ⊥
+          to r (inl k) = inl k
+          to r (inr k) = absurd (other k.0)
+
+          from : (r : ValueRange) → (get place_cmp was p ≡ Some r) ⊎ ⊥ → Known_at p r
+          from r (inl k) = inl k
+          from r (inr k) = absurd k
+
+-- the first range there, in a map that stayed as it was
+pub range_first : (place : StatementPlace) (range : ValueRange) (was mid now : BTreeMap StatementPlace ValueRange) → mid ≡ was → get place_cmp was place ≡ None
+    → ((q : StatementPlace) → get place_cmp now q ≡ cond (is_eq (place_cmp place q)) (Some range) (get place_cmp mid q)) → PutsInPlace place range was now
+range_first place range was mid now same unknown updated =
+    range_put place range range was now
+    (λ q. updated q ∙ ap (λ m. cond (is_eq (place_cmp place q)) (Some range) (get place_cmp m q)) same)
+    (subst (λ o. IsLeastRange (λ r. (o ≡ Some r) ⊎ (range ≡ r)) range) (sym unknown) (least_unknown range))
+
+-- a range joined with that which is known there
+pub range_joined : (place : StatementPlace) (range known kept : ValueRange) (was now : BTreeMap StatementPlace ValueRange) → get place_cmp was place ≡ Some known
+    → IsLeastRange (λ r. (known ≡ r) ⊎ (range ≡ r)) kept
+    → ((q : StatementPlace) → get place_cmp now q ≡ cond (is_eq (place_cmp place q)) (Some kept) (get place_cmp was q)) → PutsInPlace place range was now
+range_joined place range known kept was now is least updated =
+    range_put place range kept was now updated
+    (subst (λ o. IsLeastRange (λ r. (o ≡ Some r) ⊎ (range ≡ r)) kept) (sym is) (least_known known range kept least))
+
+pub range_added : (spot : Spot) (range : ValueRange) (was now : Known) → PutsInPlace (place_in spot) range was.values now.values → now.reached ≡ was.reached → now.exits ≡ was.exits → AddsRange spot range was now
+range_added spot range was now put reached exits = record {
   reached = λ p. subst (λ s. IsOneOf s p ↔ (IsOneOf was.reached p ⊎ ⊥)) (sym reached) stays;
-  values = λ p. by_place p (is_eq (place_cmp place p)) refl (updated p);
+  values = put;
   exits = λ q. subst (λ s. IsExitOf s q ↔ (IsExitOf was.exits q ⊎ ⊥)) (sym exits) stays;
 }
-  where
-    place : StatementPlace
-    place = place_in spot
 
-    Known_at : StatementPlace → ValueRange → Type 0
-    Known_at p r = (get place_cmp was.values p ≡ Some r) ⊎ ((place ≡ p) × (range ≡ r))
-
-    here : IsLeastOf (Known_at place) (Some kept)
-    here = least_as (λ r. (get place_cmp was.values place ≡ Some r) ⊎ (range ≡ r)) (λ r. (get place_cmp was.values place ≡ Some r) ⊎ ((place ≡ place) × (range ≡ r))) (Some kept) (λ r. (to r, from r)) least
-      where
-        to : (r : ValueRange) → (get place_cmp was.values place ≡ Some r) ⊎ ((place ≡ place) × (range ≡ r)) → (get place_cmp was.values place ≡ Some r) ⊎ (range ≡ r)
-        to r (inl e) = inl e
-        to r (inr e) = inr e.1
-
-        from : (r : ValueRange) → (get place_cmp was.values place ≡ Some r) ⊎ (range ≡ r) → (get place_cmp was.values place ≡ Some r) ⊎ ((place ≡ place) × (range ≡ r))
-        from r (inl e) = inl e
-        from r (inr e) = inr (refl, e)
-
-    by_place : (p : StatementPlace) (b : Bool) → is_eq (place_cmp place p) ≡ b → get place_cmp now.values p ≡ cond b (Some kept) (get place_cmp was.values p) → IsLeastOf (λ r. (get place_cmp was.values p ≡ Some r) ⊎ ((place ≡ p) × (range ≡ r))) (get place_cmp now.values p)
-    by_place p true e u = subst (IsLeastOf (Known_at p)) (sym u) (subst (λ p. IsLeastOf (Known_at p) (Some kept)) (same_place place p (tied (place_cmp place p) e)) here)
-    by_place p false e u =
-        subst (IsLeastOf (Known_at p)) (sym u)
-        (least_as (λ r. (get place_cmp was.values p ≡ Some r) ⊎ ⊥) (Known_at p) (get place_cmp was.values p) (λ r. (to r, from r)) (least_stays (get place_cmp was.values p)))
-      where
-        other : place ≡ p → ⊥
-        other k = (let own : is_eq (place_cmp place p) ≡ true = subst (λ p. is_eq (place_cmp place p) ≡ true) k (ap is_eq (own_place place)) in absurd (cc))
-
-        to : (r : ValueRange) → Known_at p r → (get place_cmp was.values p ≡ Some r) ⊎ ⊥
-        to r (inl k) = inl k
-        to r (inr k) = absurd (other k.0)
-
-        from : (r : ValueRange) → (get place_cmp was.values p ≡ Some r) ⊎ ⊥ → Known_at p r
-        from r (inl k) = inl k
-        from r (inr k) = absurd k
+pub range_added_on : {E : Type 0} (r : Result (Unit {0}) E) (spot : Spot) (range : ValueRange) (was now : Known) → OnOk r (PutsInPlace (place_in spot) range was.values now.values) → now.reached ≡ was.reached → now.exits ≡ was.exits → OnOk r (AddsRange spot range was now)
+range_added_on (Ok u) spot range was now put reached exits = range_added spot range was now put reached exits
+range_added_on (Err e) spot range was now put reached exits = tt
 
 -- the statement is reached, and its range is put there
 pub eval_added : (spot : Spot) (a : Interval) (was mid now : Known) → AddsPlace spot was mid → AddsRange spot (value_range a) mid now → AddsEval spot a was now

@@ -34,8 +34,8 @@ impl ValueRange {
     }
 
     /// The least range in which both lie.
-    pub(crate) fn joined(self, other: ValueRange) -> ValueRange
-        ensures { IsLeastRange (λ r. (self ≡ r) ⊎ (other ≡ r)) result }
+    pub(crate) fn joined(&self, other: &ValueRange) -> ValueRange
+        ensures { IsLeastRange (λ r. (self.now ≡ r) ⊎ (other.now ≡ r)) result }
     {
         ValueRange {
             least: lesser(self.least, other.least),

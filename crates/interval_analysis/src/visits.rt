@@ -1,8 +1,6 @@
 //! What is kept of the statements to which a walk comes.
-ghost use Rattle.std.specs.Prelude.{◌≡◌, ◌⊎◌, Some, IsNone, OnOk};
-ghost use Rattle.std.specs.Option.{option_copied};
-ghost use Rattle.interval_analysis.specs.Surveys.{IsLeastRange};
-ghost use Rattle.interval_analysis.specs.private.VisitViews.{AddsEval, AddsExit, AddsIf, AddsPlace, AddsRange, IsNothingKnown, KeepsEval, KeepsExecute, KeepsIf};
+ghost use Rattle.std.specs.Prelude.{IsNone, OnOk};
+ghost use Rattle.interval_analysis.specs.private.VisitViews.{AddsEval, AddsExit, AddsIf, AddsPlace, AddsRange, IsNothingKnown, KeepsEval, KeepsExecute, KeepsIf, PutsInPlace};
 
 use crate::branches::Branches;
 use crate::statements::Spot;
@@ -27,7 +25,7 @@ impl Known {
         ensures { OnOk result (AddsEval spot.now range self.old self.new) }
     {
         self.add_place(spot)?;
-        self.add_range(spot, ValueRange::of(range))
+        self.add_range(spot, &ValueRange::of(range))
     }
 
     fn add_if(&mut self, spot: &Spot, branches: &Branches) -> Result<(), AllocError>
@@ -46,13 +44,10 @@ impl Known {
     }
 
     /// Joins the range of an EVAL with another.
-    fn add_range(&mut self, spot: &Spot, range: ValueRange) -> Result<(), AllocError>
-        ensures { OnOk result (AddsRange spot.now range self.old self.new) }
+    fn add_range(&mut self, spot: &Spot, range: &ValueRange) -> Result<(), AllocError>
+        ensures { OnOk result (AddsRange spot.now range.now self.old self.new) }
     {
-        let place = (spot.method, spot.at);
-        let kept = joined_with(self.values.get(&place), range);
-        self.values.insert(place, kept)?;
-        Ok(())
+        put_range(&mut self.values, (spot.method, spot.at), range)
     }
 
     /// Adds an exit of an IF, if it is open.
@@ -67,14 +62,20 @@ impl Known {
     }
 }
 
-/// The least range in which a range and what is known lie.
-fn joined_with(known: Option<&ValueRange>, range: ValueRange) -> ValueRange
-    ensures { IsLeastRange (λ r. (option_copied known.entry ≡ Some r) ⊎ (range ≡ r)) result }
+/// Puts a range at a statement, joined with that which is known of it.
+fn put_range(
+    values: &mut BTreeMap<(Name, u32), ValueRange>,
+    place: (Name, u32),
+    range: &ValueRange,
+) -> Result<(), AllocError>
+    ensures { OnOk result (PutsInPlace place range.now values.old values.new) }
 {
-    match known {
-        Some(known) => known.joined(range),
-        None => range,
+    if let Some(known) = values.get_mut(&place) {
+        *known = known.joined(range);
+        return Ok(());
     }
+    values.insert(place, *range)?;
+    Ok(())
 }
 
 /// The statements to which a walk has come, where that is asked for.

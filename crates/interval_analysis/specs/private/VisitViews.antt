@@ -1,6 +1,6 @@
 -- What private contracts say of what is kept of the statements to which a walk comes.
 use Rattle.std.specs.Prelude.{◌≡◌, ◌↔◌, ℕ, ◌+◌, ◌⊎◌, Bool, IsTrue, if◌then◌else◌, IsSome, IsSomeAnd, IfSome, List, Option, Some, None}
-use Rattle.std.specs.BTreeMap.{get}
+use Rattle.std.specs.BTreeMap.{BTreeMap, get}
 use Rattle.pap_tree.specs.Flowchart.{Body, body_of}
 use Rattle.pap_tree.specs.Statements.{written}
 use Rattle.interval_num.specs.Intervals.{Interval}
@@ -66,6 +66,11 @@ place_in spot = (spot.method, spot.at)
 -- only that the statement is reached
 abbrev pub AddsPlace : Spot → (was now : Known) → Type 0
 AddsPlace spot was now = AddsThese (λ p. place_in spot ≡ p) (λ p r. ⊥) (λ q. ⊥) was now
+
+-- what is known of the ranges of statements, and that a range is put at one of them
+abbrev pub PutsInPlace : StatementPlace → ValueRange → (was now : BTreeMap StatementPlace ValueRange) → Type 0
+PutsInPlace place range was now =
+    (p : StatementPlace) → IsLeastOf (λ r. (get place_cmp was p ≡ Some r) ⊎ ((place ≡ p) × (range ≡ r))) (get place_cmp now p)
 
 -- only that a range is put there
 abbrev pub AddsRange : Spot → ValueRange → (was now : Known) → Type 0
