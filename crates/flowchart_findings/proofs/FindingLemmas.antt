@@ -1,24 +1,24 @@
 -- The findings of a flowchart, from those of its parts.
-use Rattle.std.proofs.Common.{◌≡◌, ℕ, zero, suc, ◌+◌, ◌<◌, ◌≤◌, List, [], ◌∷◌, ◌++◌, length, drop, get_or, Bool, map, refl, sym, ap, subst, ◌∙◌, append_assoc, arith}
+use Rattle.std.proofs.Common.{◌≡◌, ℕ, zero, suc, ◌+◌, ◌<◌, ◌≤◌, List, [], ◌∷◌, ◌++◌, length, drop, get_or, Bool, map, sym, ap, subst, ◌∙◌, append_assoc, arith}
 use Rattle.std.specs.Prelude.{not, ◌&&◌, false}
 use Rattle.std.specs.BTreeSet.{BTreeSet}
-use Rattle.std.proofs.lemmas.List.{append-nil, drop_more}
-use Rattle.pap_tree.specs.Declarations.{Declaration, declaration_of}
+use Rattle.std.proofs.lemmas.List.{drop_more}
+use Rattle.pap_tree.specs.Declarations.{declaration_of}
 use Rattle.pap_tree.specs.declared.declaration.Declared.{Declared}
 use Rattle.pap_tree.specs.declared.plan.Method.{Method}
 use Rattle.pap_tree.specs.declared.plan.PlanText.{PlanText}
 use Rattle.pap_tree.specs.declared.plan.Stmt.{Stmt}
-use Rattle.pap_tree.specs.Flowchart.{Flowchart, Routine, routine_of, body_of, flowchart_of}
+use Rattle.pap_tree.specs.Flowchart.{Flowchart, routine_of, body_of, flowchart_of}
 use Rattle.pap_tree.specs.Names.{main_name}
 use Rattle.pap_tree.specs.Statements.{written}
 use Rattle.pap_types.specs.Counts.{IsWithinCounts, methods_written}
-use Rattle.interval_analysis.specs.Surveys.{StatementPlace}
+use Rattle.interval_analysis.specs.Surveys.{StatementPlace, ExitPlace}
 use Rattle.flowchart_findings.specs.declared.name_sets.NameSets.{NameSets}
 use Rattle.flowchart_findings.specs.declared.finding.Group.{Group}
 use Rattle.flowchart_findings.specs.declared.finding.Group.TheVariants.{Input, Output, Internal, Constant}
 use Rattle.flowchart_findings.specs.declared.finding.Finding.{Finding}
 use Rattle.flowchart_findings.specs.Uses.{is_read, is_assigned, is_unused}
-use Rattle.flowchart_findings.specs.Findings.{declaration_site, declaration_finding, declaration_findings, declared_findings, body_findings, method_findings, is_dead_in, methods_findings, findings_of}
+use Rattle.flowchart_findings.specs.Findings.{declaration_site, declaration_finding, declaration_findings, declared_findings, body_findings, method_findings, method_facts, methods_findings, findings_of}
 use Rattle.flowchart_findings.specs.private.FindingViews.{AddsAll, AddsDeclarations, AddsMethods}
 use Rattle.flowchart_findings.specs.private.SetViews.{HasNames, HaveNames, read_by, assigned_by, unused_by}
 use Rattle.flowchart_findings.specs.private.StatementViews.{AddsFindings}
@@ -41,16 +41,16 @@ one_declaration read assigned group ds i d out out' whole is lt so_far added =
     ∙ so_far
 
 -- one more method
-pub one_method : (reached : BTreeSet StatementPlace) (unused : List ℕ → Bool) (ms : List Method) (i : ℕ) (m : Method)
+pub one_method : (reached : BTreeSet StatementPlace) (exits : BTreeSet ExitPlace) (unused : List ℕ → Bool) (ms : List Method) (i : ℕ) (m : Method)
     (out out' whole : List Finding) → m ≡ get_or ms i m → i < length ms
-    → out ++ methods_findings reached unused (i + 1) (map routine_of (drop i ms)) ≡ whole
-    → out' ≡ out ++ method_findings (is_dead_in reached m.name) unused m.name (i + 1) (routine_of m).body
-    → out' ++ methods_findings reached unused (i + 1 + 1) (map routine_of (drop (i + 1) ms)) ≡ whole
-one_method reached unused ms i m out out' whole is lt so_far added =
-    let rest = methods_findings reached unused (i + 1 + 1) (map routine_of (drop (i + 1) ms)) in
-    let one = method_findings (is_dead_in reached m.name) unused m.name (i + 1) (routine_of m).body in
+    → out ++ methods_findings reached exits unused (i + 1) (map routine_of (drop i ms)) ≡ whole
+    → out' ≡ out ++ method_findings (method_facts reached exits unused m.name (i + 1)) (routine_of m).body
+    → out' ++ methods_findings reached exits unused (i + 1 + 1) (map routine_of (drop (i + 1) ms)) ≡ whole
+one_method reached exits unused ms i m out out' whole is lt so_far added =
+    let rest = methods_findings reached exits unused (i + 1 + 1) (map routine_of (drop (i + 1) ms)) in
+    let one = method_findings (method_facts reached exits unused m.name (i + 1)) (routine_of m).body in
     ap (λ l. l ++ rest) added ∙ append_assoc out one rest
-    ∙ ap (λ l. out ++ methods_findings reached unused (i + 1) (map routine_of l)) (sym (from_item ms i m is lt))
+    ∙ ap (λ l. out ++ methods_findings reached exits unused (i + 1) (map routine_of l)) (sym (from_item ms i m is lt))
     ∙ so_far
 
 -- one method's statements are among those of all
@@ -81,21 +81,21 @@ four_groups read assigned p i o n k out out1 out2 out3 out4 ei eo en ek one two 
     ∙ append_assoc ((out ++ a) ++ b) c d ∙ append_assoc (out ++ a) b (c ++ d) ∙ append_assoc out a (b ++ (c ++ d))
 
 -- what is added, part by part
-pub three_parts : (names : NameSets) (reached : BTreeSet StatementPlace) (main : List ℕ) (p : PlanText) (body : List Stmt)
+pub three_parts : (names : NameSets) (reached : BTreeSet StatementPlace) (exits : BTreeSet ExitPlace) (main : List ℕ) (p : PlanText) (body : List Stmt)
     (methods : List Method) (out out1 out2 out3 : List Finding) (next : ℕ) → body ≡ p.main.items → methods ≡ p.methods.items
     → main ≡ main_name
     → AddsDeclarations names (flowchart_of p) out out1
-    → AddsFindings (body_findings (is_dead_in reached main) (unused_by names) main 0 0 false (body_of body)) out1 out2 next (0 + written (body_of body))
-    → AddsMethods names reached (map routine_of methods) out2 out3
-    → AddsAll names reached (flowchart_of p) out out3
-three_parts names reached main p body methods out out1 out2 out3 next eb em is one two three =
+    → AddsFindings (body_findings (method_facts reached exits (unused_by names) main 0) 0 false (body_of body)) out1 out2 next (0 + written (body_of body))
+    → AddsMethods names reached exits (map routine_of methods) out2 out3
+    → AddsAll names reached exits (flowchart_of p) out out3
+three_parts names reached exits main p body methods out out1 out2 out3 next eb em is one two three =
     let a = declared_findings (read_by names) (assigned_by names) (flowchart_of p) in
-    let b = body_findings (is_dead_in reached main_name) (unused_by names) main_name 0 0 false (flowchart_of p).main in
-    let c = methods_findings reached (unused_by names) 1 (flowchart_of p).methods in
+    let b = body_findings (method_facts reached exits (unused_by names) main_name 0) 0 false (flowchart_of p).main in
+    let c = methods_findings reached exits (unused_by names) 1 (flowchart_of p).methods in
     let second = two.added
-    ∙ ap (λ l. out1 ++ body_findings (is_dead_in reached main) (unused_by names) main 0 0 false (body_of l)) eb
-    ∙ ap (λ m. out1 ++ body_findings (is_dead_in reached m) (unused_by names) m 0 0 false (flowchart_of p).main) is in
-    let third = three ∙ ap (λ l. out2 ++ methods_findings reached (unused_by names) 1 (map routine_of l)) em in
+    ∙ ap (λ l. out1 ++ body_findings (method_facts reached exits (unused_by names) main 0) 0 false (body_of l)) eb
+    ∙ ap (λ m. out1 ++ body_findings (method_facts reached exits (unused_by names) m 0) 0 false (flowchart_of p).main) is in
+    let third = three ∙ ap (λ l. out2 ++ methods_findings reached exits (unused_by names) 1 (map routine_of l)) em in
     record {
       added = third ∙ ap (λ l. l ++ c) (second ∙ ap (λ l. l ++ b) one)
           ∙ append_assoc (out ++ a) b c ∙ append_assoc out a (b ++ c);
@@ -113,13 +113,13 @@ pub renamed : (names all : List (List ℕ)) (s : BTreeSet (List ℕ)) → names 
 renamed names all s is has = subst (λ l. HasNames l s) is has
 
 -- What is found by sets of a flowchart's names are its findings.
-pub all_parts : (f : Flowchart) (reached : BTreeSet StatementPlace) (names : NameSets) (out0 out : List Finding)
-    → HaveNames f names → out0 ≡ [] → AddsAll names reached f out0 out → out ≡ findings_of f reached
-all_parts f reached names out0 out have none adds =
+pub all_parts : (f : Flowchart) (reached : BTreeSet StatementPlace) (exits : BTreeSet ExitPlace) (names : NameSets) (out0 out : List Finding)
+    → HaveNames f names → out0 ≡ [] → AddsAll names reached exits f out0 out → out ≡ findings_of f reached exits
+all_parts f reached exits names out0 out have none adds =
     let r : read_by names ≡ is_read f = λ i x. have.read x i in
     let a : assigned_by names ≡ is_assigned f = λ i x. have.assigned x i in
     let u : unused_by names ≡ is_unused f = λ i x. (have.internals x i) && not (have.read x i) in
     adds.added
     ∙ (λ i. none i
     ++ (declared_findings (r i) (a i) f
-    ++ (body_findings (is_dead_in reached main_name) (u i) main_name 0 0 false f.main ++ methods_findings reached (u i) 1 f.methods)))
+    ++ (body_findings (method_facts reached exits (u i) main_name 0) 0 false f.main ++ methods_findings reached exits (u i) 1 f.methods)))

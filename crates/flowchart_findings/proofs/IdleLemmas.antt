@@ -1,26 +1,26 @@
 -- The statements that findings say to be idle aren't among those that a run may execute.
 use Rattle.std.proofs.Common.{◌≡◌, ℕ, ◌+◌, List, [], ◌∷◌, ◌++◌, Bool, true, false, Option, Some, None, refl, sym, ap, subst, ◌∙◌}
-use Rattle.std.specs.Prelude.{not, if◌then◌else◌, All, IfSome, IsTrue}
+use Rattle.std.specs.Prelude.{if◌then◌else◌, All, IfSome}
 use Rattle.std.specs.BTreeSet.{BTreeSet, contains}
-use Rattle.std.proofs.lemmas.Bool.{false≢true}
+use Rattle.std.specs.Option.{option_map}
+use Rattle.std.proofs.lemmas.Bool.{false≢true, not-true}
 use Rattle.std.proofs.lemmas.List.Elements.{All-nil, All-cons, All-append, All-weaker}
 use Rattle.scaled_decimal.specs.Decimals.{Decimal}
 use Rattle.pap_tree.specs.Declarations.{Declaration}
 use Rattle.pap_tree.specs.Flowchart.{Body, done, eval, branch, execute, Routine, Flowchart}
 use Rattle.pap_tree.specs.Names.{main_name}
 use Rattle.pap_tree.specs.Statements.{written}
-use Rattle.interval_walk.specs.Visits.{Execution, RunExecutes}
-use Rattle.interval_analysis.specs.Surveys.{StatementPlace, place_cmp, IsOneOf, HaveExecuted}
+use Rattle.interval_analysis.specs.Surveys.{StatementPlace, ExitPlace, place_cmp, HaveExecuted}
 use Rattle.flowchart_findings.specs.declared.finding.Group.{Group}
 use Rattle.flowchart_findings.specs.declared.finding.Group.TheVariants.{Input, Output, Internal, Constant}
 use Rattle.flowchart_findings.specs.declared.finding.DeclarationSite.{DeclarationSite}
 use Rattle.flowchart_findings.specs.declared.finding.Finding.{Finding}
 use Rattle.flowchart_findings.specs.declared.finding.Finding.TheVariants.{Unread, Unassigned, DeadMethod, DeadStatement, UnusedValue, NeverTrue, NeverFalse}
 use Rattle.flowchart_findings.specs.Uses.{is_read, is_assigned, is_unused}
-use Rattle.flowchart_findings.specs.Findings.{is_unread, is_unassigned, declaration_site, declaration_finding, declaration_findings, declared_findings, statement_site, begins_dead, dead_findings, value_findings, never_true_findings, never_false_findings, test_findings, body_findings, method_findings, is_dead_in, methods_findings, findings_of}
+use Rattle.flowchart_findings.specs.Findings.{is_unread, is_unassigned, declaration_site, declaration_finding, declaration_findings, declared_findings, begins_dead, dead_first, MethodFacts, known_site, dead_findings, value_findings, never_true_findings, never_false_findings, test_findings, body_findings, method_findings, is_dead_in, method_facts, methods_findings, findings_of}
 use Rattle.flowchart_findings.specs.NeverExecuted.{idle_place, IsNeverExecuted, AreNeverExecuted}
 
-module _ (reached : BTreeSet StatementPlace) where
+module _ (reached : BTreeSet StatementPlace) (exits : BTreeSet ExitPlace) where
   -- the idle statement of a finding isn't among them
   abbrev IsIdle : Finding → Type 0
   IsIdle d = IfSome (idle_place d) (λ p. contains place_cmp reached p ≡ false)
@@ -41,10 +41,6 @@ module _ (reached : BTreeSet StatementPlace) where
   where_true : (b : Bool) (xs ys : List Finding) → (b ≡ true → AreIdle xs) → AreIdle ys → AreIdle (if b then xs else ys)
   where_true true xs ys h g = h refl
   where_true false xs ys h g = g
-
-  left_out : (b : Bool) → not b ≡ true → b ≡ false
-  left_out true e = sym e
-  left_out false e = refl
 
   -- ---- declarations
 
@@ -70,11 +66,14 @@ module _ (reached : BTreeSet StatementPlace) where
   -- ---- statements
 
   module _ (unused : List ℕ → Bool) (method : List ℕ) (number : ℕ) where
+    abbrev known : MethodFacts
+    known = method_facts reached exits unused method number
+
     abbrev dead : ℕ → Bool
     dead = is_dead_in reached method
 
     out : (at : ℕ) → dead at ≡ true → contains place_cmp reached (method, at) ≡ false
-    out at h = left_out (contains place_cmp reached (method, at)) h
+    out at h = not-true (contains place_cmp reached (method, at)) h
 
     begins_out : (at : ℕ) (b : Body) → begins_dead dead at b ≡ true → contains place_cmp reached (method, at) ≡ false
     begins_out at done h = absurd (false≢true h)
@@ -82,65 +81,77 @@ module _ (reached : BTreeSet StatementPlace) where
     begins_out at (branch t a b rest) h = out at h
     begins_out at (execute m rest) h = out at h
 
-    dead_idle : (at : ℕ) (behind : Bool) → dead at ≡ true → AreIdle (dead_findings dead unused method number at behind)
+    -- the first statement of a list that is never taken, where it has one
+    first_out_where : (at : ℕ) (b : Bool) → (b ≡ true → contains place_cmp reached (method, at) ≡ false)
+        → IfSome (option_map (λ n. (method, n)) (if b then Some at else None)) (λ p. contains place_cmp reached p ≡ false)
+    first_out_where at true h = h refl
+    first_out_where at false h = tt
+
+    first_out : (at : ℕ) (b : Body)
+        → IfSome (option_map (λ n. (method, n)) (dead_first dead at b)) (λ p. contains place_cmp reached p ≡ false)
+    first_out at b = first_out_where at (begins_dead dead at b) (begins_out at b)
+
+    dead_idle : (at : ℕ) (behind : Bool) → dead at ≡ true → AreIdle (dead_findings known at behind)
     dead_idle at true h = none
-    dead_idle at false h = single (DeadStatement (statement_site method number at)) (out at h)
+    dead_idle at false h = single (DeadStatement (known_site known at)) (out at h)
 
-    value_idle : (x : List ℕ) (at : ℕ) → AreIdle (value_findings dead unused method number x at)
+    value_idle : (x : List ℕ) (at : ℕ) → AreIdle (value_findings known x at)
     value_idle x at =
-        where_true (unused x) (UnusedValue (statement_site method number at) x ∷ []) []
-        (λ _. single (UnusedValue (statement_site method number at) x) tt) none
+        where_true (unused x) (UnusedValue (known_site known at) x ∷ []) []
+        (λ _. single (UnusedValue (known_site known at) x) tt) none
 
-    test_idle : (at : ℕ) (a : Body) (second : ℕ) (b : Body) → AreIdle (test_findings dead unused method number at a second b)
+    test_idle : (at : ℕ) (a : Body) (second : ℕ) (b : Body) → AreIdle (test_findings known at a second b)
     test_idle at a second b =
-        both (never_true_findings dead unused method number at (at + 1) a) (never_false_findings dead unused method number at second b)
-        (where_true (begins_dead dead (at + 1) a) (NeverTrue (statement_site method number at) (at + 1) ∷ []) []
-        (λ h. single (NeverTrue (statement_site method number at) (at + 1)) (begins_out (at + 1) a h)) none)
-        (where_true (begins_dead dead second b) (NeverFalse (statement_site method number at) second ∷ []) []
-        (λ h. single (NeverFalse (statement_site method number at) second) (begins_out second b h)) none)
+        let first_true = dead_first dead (at + 1) a in
+        let first_false = dead_first dead second b in
+        both (never_true_findings known at (at + 1) a) (never_false_findings known at second b)
+        (where_true (known.is_closed at true) (NeverTrue (known_site known at) first_true ∷ []) []
+        (λ _. single (NeverTrue (known_site known at) first_true) (first_out (at + 1) a)) none)
+        (where_true (known.is_closed at false) (NeverFalse (known_site known at) first_false ∷ []) []
+        (λ _. single (NeverFalse (known_site known at) first_false) (first_out second b)) none)
 
     abbrev found : ℕ → Bool → Body → List Finding
-    found = body_findings dead unused method number
+    found = body_findings known
 
     body_idle : (at : ℕ) (behind : Bool) (b : Body) → AreIdle (found at behind b)
     body_idle at behind done = none
     body_idle at behind (eval x e rest) =
-        both (if dead at then dead_findings dead unused method number at behind else value_findings dead unused method number x at)
+        both (if dead at then dead_findings known at behind else value_findings known x at)
         (found (at + 1) (dead at) rest)
-        (where_true (dead at) (dead_findings dead unused method number at behind) (value_findings dead unused method number x at)
+        (where_true (dead at) (dead_findings known at behind) (value_findings known x at)
         (dead_idle at behind) (value_idle x at))
         (body_idle (at + 1) (dead at) rest)
     body_idle at behind (branch t a b rest) =
-        let tests = test_findings dead unused method number at a (at + 1 + written a) b in
+        let tests = test_findings known at a (at + 1 + written a) b in
         let inside = tests ++ (found (at + 1) false a ++ found (at + 1 + written a) false b) in
-        both (if dead at then dead_findings dead unused method number at behind else inside)
+        both (if dead at then dead_findings known at behind else inside)
         (found (at + 1 + written a + written b) (dead at) rest)
-        (where_true (dead at) (dead_findings dead unused method number at behind) inside (dead_idle at behind)
+        (where_true (dead at) (dead_findings known at behind) inside (dead_idle at behind)
         (both tests (found (at + 1) false a ++ found (at + 1 + written a) false b) (test_idle at a (at + 1 + written a) b)
         (both (found (at + 1) false a) (found (at + 1 + written a) false b) (body_idle (at + 1) false a)
         (body_idle (at + 1 + written a) false b))))
         (body_idle (at + 1 + written a + written b) (dead at) rest)
     body_idle at behind (execute m rest) =
-        both (if dead at then dead_findings dead unused method number at behind else []) (found (at + 1) (dead at) rest)
-        (where_true (dead at) (dead_findings dead unused method number at behind) [] (dead_idle at behind) none)
+        both (if dead at then dead_findings known at behind else []) (found (at + 1) (dead at) rest)
+        (where_true (dead at) (dead_findings known at behind) [] (dead_idle at behind) none)
         (body_idle (at + 1) (dead at) rest)
 
-    method_idle : (b : Body) → AreIdle (method_findings dead unused method number b)
+    method_idle : (b : Body) → AreIdle (method_findings known b)
     method_idle b =
         where_true (begins_dead dead 0 b) (DeadMethod method number ∷ []) (found 0 false b)
         (λ h. single (DeadMethod method number) (begins_out 0 b h)) (body_idle 0 false b)
 
-  methods_idle : (unused : List ℕ → Bool) (number : ℕ) (ms : List Routine) → AreIdle (methods_findings reached unused number ms)
+  methods_idle : (unused : List ℕ → Bool) (number : ℕ) (ms : List Routine) → AreIdle (methods_findings reached exits unused number ms)
   methods_idle unused number [] = none
   methods_idle unused number (m ∷ ms) =
-      both (method_findings (is_dead_in reached m.name) unused m.name number m.body) (methods_findings reached unused (number + 1) ms)
+      both (method_findings (method_facts reached exits unused m.name number) m.body) (methods_findings reached exits unused (number + 1) ms)
       (method_idle unused m.name number m.body) (methods_idle unused (number + 1) ms)
 
-  found_idle : (f : Flowchart) → AreIdle (findings_of f reached)
+  found_idle : (f : Flowchart) → AreIdle (findings_of f reached exits)
   found_idle f =
       both (declared_findings (is_read f) (is_assigned f) f) _ (declared_idle (is_read f) (is_assigned f) f)
-      (both (body_findings (is_dead_in reached main_name) (is_unused f) main_name 0 0 false f.main)
-      (methods_findings reached (is_unused f) 1 f.methods)
+      (both (body_findings (method_facts reached exits (is_unused f) main_name 0) 0 false f.main)
+      (methods_findings reached exits (is_unused f) 1 f.methods)
       (body_idle (is_unused f) main_name 0 0 false f.main) (methods_idle (is_unused f) 1 f.methods))
 
   -- ---- runs
@@ -153,7 +164,7 @@ module _ (reached : BTreeSet StatementPlace) where
     place_never (Some p) h = left_never p h
     place_never None h = tt
 
-    pub never_executed : (found : List Finding) → found ≡ findings_of f reached → AreNeverExecuted f inputs found
+    pub never_executed : (found : List Finding) → found ≡ findings_of f reached exits → AreNeverExecuted f inputs found
     never_executed found is =
         All-weaker IsIdle (λ d. IfSome (idle_place d) (IsNeverExecuted f inputs)) (λ d. place_never (idle_place d)) found
         (subst AreIdle (sym is) (found_idle f))

@@ -1,5 +1,6 @@
 mod CountLemmas
 mod CursorLemmas
+mod ExitLemmas
 mod FindingLemmas
 mod IdleLemmas
 mod SetLemmas

@@ -5,8 +5,7 @@ use Rattle.std.specs.declared.alloc.AllocError.{AllocError}
 use Rattle.std.proofs.lemmas.List.{append-nil}
 use Rattle.pap_tree.specs.declared.expression.Expr.{Expr}
 use Rattle.pap_tree.specs.declared.plan.Stmt.{Stmt, Eval, If, If', Execute}
-use Rattle.pap_tree.specs.Term.{term_of}
-use Rattle.pap_tree.specs.Flowchart.{Body, done, branch, body_of, body_of_row, stmt_then}
+use Rattle.pap_tree.specs.Flowchart.{Body, done, body_of, body_of_row, stmt_then}
 use Rattle.pap_tree.specs.Statements.{written}
 use Rattle.pap_tree.proofs.Laws.{stmt_at, branch_is}
 use Rattle.flowchart_findings.specs.declared.finding.Finding.{Finding}

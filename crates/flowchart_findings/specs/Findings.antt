@@ -1,12 +1,12 @@
--- What the author of a flowchart may want to change. Which statements are dead is known from the ranges of the inputs; which names
--- nothing reads or assigns, from the text alone.
-use Rattle.std.specs.Prelude.{ℕ, ◌+◌, Bool, true, false, not, ◌&&◌, if◌then◌else◌, List, [], ◌∷◌, ◌++◌}
+-- What the author of a flowchart may want to change. Which statements are dead and which exits of IFs are never taken is known from the
+-- ranges of the inputs; which names nothing reads or assigns, from the text alone.
+use Rattle.std.specs.Prelude.{ℕ, ◌+◌, Bool, true, false, not, ◌&&◌, if◌then◌else◌, List, [], ◌∷◌, ◌++◌, Option, Some, None}
 use Rattle.std.specs.BTreeSet.{BTreeSet, contains}
 use Rattle.pap_tree.specs.Declarations.{Declaration}
 use Rattle.pap_tree.specs.Flowchart.{Body, done, eval, branch, execute, Routine, Flowchart}
 use Rattle.pap_tree.specs.Names.{main_name}
 use Rattle.pap_tree.specs.Statements.{written}
-use Rattle.interval_analysis.specs.Surveys.{StatementPlace, place_cmp}
+use Rattle.interval_analysis.specs.Surveys.{StatementPlace, place_cmp, ExitPlace, exit_cmp}
 use Rattle.flowchart_findings.specs.declared.finding.Group.{Group}
 use Rattle.flowchart_findings.specs.declared.finding.Group.TheVariants.{Input, Output, Internal, Constant}
 use Rattle.flowchart_findings.specs.declared.finding.DeclarationSite.{DeclarationSite}
@@ -77,25 +77,41 @@ begins_dead is_dead at (eval x e rest) = is_dead at
 begins_dead is_dead at (branch t a b rest) = is_dead at
 begins_dead is_dead at (execute m rest) = is_dead at
 
--- In a method of a name and a number it is known which statements are dead and which names are assigned in vain.
-module _ (is_dead : ℕ → Bool) (is_unused : List ℕ → Bool) (method : List ℕ) (number : ℕ) where
+-- the number `at` of the first statement of a list, where it has one and that is dead
+abbrev pub dead_first : (ℕ → Bool) → ℕ → Body → Option ℕ
+dead_first is_dead at b = if begins_dead is_dead at b then Some at else None
+
+-- what is known of a method of a name and a number: which of its statements no run executes, which exits of its IFs no run takes, by
+-- whether the test holds there, and which names are assigned in vain
+pub record MethodFacts : Type 0 where
+  pub name : List ℕ
+  pub number : ℕ
+  pub is_dead : ℕ → Bool
+  pub is_closed : ℕ → (holds : Bool) → Bool
+  pub is_unused : List ℕ → Bool
+
+module _ (known : MethodFacts) where
+  -- a statement of the method
+  abbrev pub known_site : ℕ → StatementSite
+  known_site at = statement_site known.name known.number at
+
   -- a dead statement; of those that follow one another in a list the first is told
   abbrev pub dead_findings : ℕ → Bool → List Finding
-  dead_findings at is_behind_dead = if is_behind_dead then [] else DeadStatement (statement_site method number at) ∷ []
+  dead_findings at is_behind_dead = if is_behind_dead then [] else DeadStatement (known_site at) ∷ []
 
   -- an EVAL whose value nothing reads
   abbrev pub value_findings : List ℕ → ℕ → List Finding
-  value_findings x at = if is_unused x then UnusedValue (statement_site method number at) x ∷ [] else []
+  value_findings x at = if known.is_unused x then UnusedValue (known_site at) x ∷ [] else []
 
-  -- a test that never holds, since its first list, which is numbered from `first`, is dead
+  -- a test that never holds; its first list is numbered from `first`
   abbrev pub never_true_findings : ℕ → ℕ → Body → List Finding
   never_true_findings at first a =
-      if begins_dead is_dead first a then NeverTrue (statement_site method number at) first ∷ [] else []
+      if known.is_closed at true then NeverTrue (known_site at) (dead_first known.is_dead first a) ∷ [] else []
 
-  -- a test that always holds, since its second list, which is numbered from `first`, is dead
+  -- a test that never fails; its second list is numbered from `first`
   abbrev pub never_false_findings : ℕ → ℕ → Body → List Finding
   never_false_findings at first b =
-      if begins_dead is_dead first b then NeverFalse (statement_site method number at) first ∷ [] else []
+      if known.is_closed at false then NeverFalse (known_site at) (dead_first known.is_dead first b) ∷ [] else []
 
   -- the findings of a test; its second list is numbered from `second`
   abbrev pub test_findings : ℕ → Body → ℕ → Body → List Finding
@@ -105,21 +121,21 @@ module _ (is_dead : ℕ → Bool) (is_unused : List ℕ → Bool) (method : List
   abbrev pub body_findings : ℕ → Bool → Body → List Finding
   body_findings at is_behind_dead done = []
   body_findings at is_behind_dead (eval x e rest) =
-      (if is_dead at then dead_findings at is_behind_dead else value_findings x at)
-      ++ body_findings (at + 1) (is_dead at) rest
+      (if known.is_dead at then dead_findings at is_behind_dead else value_findings x at)
+      ++ body_findings (at + 1) (known.is_dead at) rest
   body_findings at is_behind_dead (branch t a b rest) =
-      (if is_dead at then dead_findings at is_behind_dead
+      (if known.is_dead at then dead_findings at is_behind_dead
       else test_findings at a (at + 1 + written a) b
       ++ (body_findings (at + 1) false a ++ body_findings (at + 1 + written a) false b))
-      ++ body_findings (at + 1 + written a + written b) (is_dead at) rest
+      ++ body_findings (at + 1 + written a + written b) (known.is_dead at) rest
   body_findings at is_behind_dead (execute m rest) =
-      (if is_dead at then dead_findings at is_behind_dead else [])
-      ++ body_findings (at + 1) (is_dead at) rest
+      (if known.is_dead at then dead_findings at is_behind_dead else [])
+      ++ body_findings (at + 1) (known.is_dead at) rest
 
   -- the findings of a method other than MAIN; of one whose first statement is dead that alone is told
   abbrev pub method_findings : Body → List Finding
   method_findings b =
-      if begins_dead is_dead 0 b then DeadMethod method number ∷ [] else body_findings 0 false b
+      if begins_dead known.is_dead 0 b then DeadMethod known.name known.number ∷ [] else body_findings 0 false b
 
 -- ---- the flowchart
 
@@ -127,16 +143,31 @@ module _ (is_dead : ℕ → Bool) (is_unused : List ℕ → Bool) (method : List
 abbrev pub is_dead_in : BTreeSet StatementPlace → List ℕ → ℕ → Bool
 is_dead_in reached method at = not (contains place_cmp reached (method, at))
 
--- the findings of methods that are numbered from `number`
-abbrev pub methods_findings : BTreeSet StatementPlace → (List ℕ → Bool) → ℕ → List Routine → List Finding
-methods_findings reached is_unused number [] = []
-methods_findings reached is_unused number (m ∷ ms) =
-    method_findings (is_dead_in reached m.name) is_unused m.name number m.body
-    ++ methods_findings reached is_unused (number + 1) ms
+-- no run takes an exit, given those that one may take
+abbrev pub is_closed_exit : BTreeSet ExitPlace → ExitPlace → Bool
+is_closed_exit exits q = not (contains exit_cmp exits q)
 
--- the findings of a flowchart: of its declarations, of MAIN, and of the other methods
-abbrev pub findings_of : Flowchart → BTreeSet StatementPlace → List Finding
-findings_of f reached =
+-- what is known of a method, given the statements that a run may execute and the exits that one may take
+abbrev pub method_facts : BTreeSet StatementPlace → BTreeSet ExitPlace → (List ℕ → Bool) → List ℕ → ℕ → MethodFacts
+method_facts reached exits is_unused method number = record {
+  name = method;
+  number = number;
+  is_dead = is_dead_in reached method;
+  is_closed = λ at holds. is_closed_exit exits (method, at, holds);
+  is_unused = is_unused;
+}
+
+-- the findings of methods that are numbered from `number`
+abbrev pub methods_findings : BTreeSet StatementPlace → BTreeSet ExitPlace → (List ℕ → Bool) → ℕ → List Routine → List Finding
+methods_findings reached exits is_unused number [] = []
+methods_findings reached exits is_unused number (m ∷ ms) =
+    method_findings (method_facts reached exits is_unused m.name number) m.body
+    ++ methods_findings reached exits is_unused (number + 1) ms
+
+-- the findings of a flowchart, given the statements that a run may execute and the exits of IFs that one may take: of its
+-- declarations, of MAIN, and of the other methods
+abbrev pub findings_of : Flowchart → BTreeSet StatementPlace → BTreeSet ExitPlace → List Finding
+findings_of f reached exits =
     declared_findings (is_read f) (is_assigned f) f
-    ++ (body_findings (is_dead_in reached main_name) (is_unused f) main_name 0 0 false f.main
-    ++ methods_findings reached (is_unused f) 1 f.methods)
+    ++ (body_findings (method_facts reached exits (is_unused f) main_name 0) 0 false f.main
+    ++ methods_findings reached exits (is_unused f) 1 f.methods)

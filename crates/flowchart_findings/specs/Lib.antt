@@ -1,3 +1,4 @@
+pub mod ClosedExits
 pub mod Findings
 pub mod NeverExecuted
 pub mod Places

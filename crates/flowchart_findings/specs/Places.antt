@@ -1,7 +1,6 @@
 -- Where the elements begin of which something is found.
 use Rattle.std.specs.Prelude.{ℕ, List, ◌++◌, map, filter, drop, Option, slice_get}
 use Rattle.std.specs.Option.{option_and_then}
-use Rattle.pap_reader.specs.declared.element.Element.{Element}
 use Rattle.pap_reader.specs.declared.element.Element.TheVariants as elements
 use Rattle.plan_notes.specs.declared.tag.Mark.{Mark}
 use Rattle.plan_notes.specs.declared.tag.Starts.{Starts}

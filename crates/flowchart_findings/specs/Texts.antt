@@ -1,5 +1,5 @@
 -- The text of findings: a line for each.
-use Rattle.std.specs.Prelude.{ℕ, List, ◌++◌, codes}
+use Rattle.std.specs.Prelude.{ℕ, List, [], ◌++◌, codes, Option, Some, None}
 use Rattle.std.specs.List.{flat_map}
 use Rattle.plan_notes.specs.declared.tag.Mark.{Mark}
 use Rattle.plain_words.specs.Places.{NamedText, place_text}
@@ -16,6 +16,16 @@ group_word Output = codes "output"
 group_word Internal = codes "internal name"
 group_word Constant = codes "constant"
 
+-- what follows from a test that never holds, where its THEN has a first statement
+abbrev pub then_words : Option ℕ → List ℕ
+then_words (Some first) = codes ", so no run executes its THEN"
+then_words None = []
+
+-- what follows from a test that always holds, where its ELSE has a first statement
+abbrev pub else_words : Option ℕ → List ℕ
+else_words (Some first) = codes ", so no run executes its ELSE"
+else_words None = []
+
 -- The word of a finding and, behind a colon, its sentence, which says from what it follows: the text alone, or the ranges of the inputs.
 abbrev pub finding_words : Finding → List ℕ
 finding_words (Unread site) =
@@ -30,9 +40,9 @@ finding_words (DeadStatement site) =
 finding_words (UnusedValue site x) =
     codes "unused: by the text alone, no expression names " ++ (x ++ codes ", so the value of this EVAL is never read")
 finding_words (NeverTrue site first) =
-    codes "never-true: by the ranges of the inputs, the test of this IF never holds, so no run executes its THEN"
+    codes "never-true: by the ranges of the inputs, the test of this IF never holds" ++ then_words first
 finding_words (NeverFalse site first) =
-    codes "never-false: by the ranges of the inputs, the test of this IF always holds, so no run executes its ELSE"
+    codes "never-false: by the ranges of the inputs, the test of this IF always holds" ++ else_words first
 
 -- these words behind a place, and the end of the line
 abbrev pub words_line : Finding → List ℕ

@@ -40,13 +40,25 @@ pub enum Finding {
     /// No EVAL assigns this output or internal name.
     Unassigned(DeclarationSite),
     /// No run executes this method: it doesn't come to its first statement.
-    DeadMethod { method: Name, method_number: usize },
+    DeadMethod {
+        method: Name,
+        method_number: usize,
+    },
     /// No run executes this statement.
     DeadStatement(StatementSite),
     /// No expression names the internal name that this EVAL assigns.
-    UnusedValue { site: StatementSite, target: Name },
-    /// The test of this IF never holds: no run executes the first statement of its THEN, which has this number.
-    NeverTrue { site: StatementSite, first: u32 },
-    /// The test of this IF always holds: no run executes the first statement of its ELSE, which has this number.
-    NeverFalse { site: StatementSite, first: u32 },
+    UnusedValue {
+        site: StatementSite,
+        target: Name,
+    },
+    /// The test of this IF never holds. If its THEN has a first statement, that has this number, and no run executes it.
+    NeverTrue {
+        site: StatementSite,
+        first: Option<u32>,
+    },
+    /// The test of this IF always holds. If its ELSE has a first statement, that has this number, and no run executes it.
+    NeverFalse {
+        site: StatementSite,
+        first: Option<u32>,
+    },
 }

@@ -2,8 +2,8 @@
 ghost use Rattle.std.specs.Prelude.{◌≡◌, ◌+◌, ◌++◌, ◌<◌, ◌^◌, false, OnOk};
 ghost use Rattle.pap_tree.specs.Flowchart.{body_of, stmt_then, done};
 ghost use Rattle.pap_tree.specs.Statements.{written};
-ghost use Rattle.flowchart_findings.specs.Findings.{begins_dead};
-ghost use Rattle.flowchart_findings.specs.private.StatementViews.{dead_in, site_in, dead_found, value_found, tests_found, never_true_found, never_false_found, FindsInBody, FindsInBranches, FindsInMethod};
+ghost use Rattle.flowchart_findings.specs.Findings.{begins_dead, dead_first};
+ghost use Rattle.flowchart_findings.specs.private.StatementViews.{dead_in, closed_in, site_in, dead_found, value_found, tests_found, never_true_found, never_false_found, FindsInBody, FindsInBranches, FindsInMethod};
 
 use crate::counts::{written, written_in};
 use crate::finding::{Finding, StatementSite};
@@ -17,6 +17,8 @@ use std::collections::BTreeSet;
 pub(crate) struct Inspection<'a> {
     /// The statements that a run may execute.
     pub reached: &'a BTreeSet<(Name, u32)>,
+    /// The exits of IFs that a run may take, each by whether its test holds there.
+    pub exits: &'a BTreeSet<(Name, u32, bool)>,
     /// The flowchart's names.
     pub names: &'a NameSets,
     /// The method.
@@ -132,7 +134,7 @@ impl Inspection<'_> {
         self.add_never_false(out, no, number, second)
     }
 
-    /// Appends that the test of an IF never holds, if its first list, which is numbered from `first`, is dead.
+    /// Appends that the test of an IF never holds, if no run takes that exit; the first list is numbered from `first`.
     fn add_never_true(
         &self,
         out: &mut Vec<Finding>,
@@ -143,14 +145,15 @@ impl Inspection<'_> {
         ensures { OnOk result (out.new.items ≡ out.old.items
             ++ never_true_found self.now number first (body_of yes.now)) }
     {
-        if self.begins_dead(yes, first) {
+        if self.is_closed(number, true) {
             let site = self.site(number);
+            let first = self.dead_first(yes, first);
             out.push(Finding::NeverTrue { site, first })?;
         }
         Ok(())
     }
 
-    /// Appends that it always holds, if its second list, which is numbered from `first`, is dead.
+    /// Appends that it always holds, if no run takes the exit where it fails; the second list is numbered from `first`.
     fn add_never_false(
         &self,
         out: &mut Vec<Finding>,
@@ -161,8 +164,9 @@ impl Inspection<'_> {
         ensures { OnOk result (out.new.items ≡ out.old.items
             ++ never_false_found self.now number first (body_of no.now)) }
     {
-        if self.begins_dead(no, first) {
+        if self.is_closed(number, false) {
             let site = self.site(number);
+            let first = self.dead_first(no, first);
             out.push(Finding::NeverFalse { site, first })?;
         }
         Ok(())
@@ -202,6 +206,17 @@ impl Inspection<'_> {
         Ok(())
     }
 
+    /// The number `at` of the first statement of a list, if it has one and that is dead.
+    fn dead_first(&self, body: &[Stmt], at: u32) -> Option<u32>
+        ensures { result ≡ dead_first (dead_in self.now) at (body_of body.now) }
+    {
+        if self.begins_dead(body, at) {
+            Some(at)
+        } else {
+            None
+        }
+    }
+
     /// Whether a list of statements that are numbered from `at` has a first one, and that is dead.
     #[tactic(auto, using(crate::proofs::StatementLemmas::begins_none, crate::proofs::StatementLemmas::begins_some))]
     fn begins_dead(&self, body: &[Stmt], at: u32) -> bool
@@ -215,6 +230,13 @@ impl Inspection<'_> {
         ensures { result ≡ dead_in self.now number }
     {
         !self.reached.contains(&(self.method, number))
+    }
+
+    /// Whether no run takes that exit of the IF of a number.
+    fn is_closed(&self, number: u32, holds: bool) -> bool
+        ensures { result ≡ closed_in self.now number holds }
+    {
+        !self.exits.contains(&(self.method, number, holds))
     }
 
     fn site(&self, number: u32) -> StatementSite

@@ -1,6 +1,6 @@
 //! The words of findings.
 ghost use Rattle.std.specs.Prelude.{◌≡◌, IfOk, string_bytes};
-ghost use Rattle.flowchart_findings.specs.Texts.{group_word, finding_words};
+ghost use Rattle.flowchart_findings.specs.Texts.{group_word, then_words, else_words, finding_words};
 
 use crate::finding::{Finding, Group};
 use std::alloc::{AllocError, Global};
@@ -46,13 +46,37 @@ pub(crate) fn finding_words(alloc: Global, finding: &Finding) -> Result<String, 
         Finding::UnusedValue { target, .. } => format!(in alloc;
             "unused: by the text alone, no expression names {target}, so the value of this EVAL is never read"
         ),
-        Finding::NeverTrue { .. } => String::from_str(
-            alloc,
-            "never-true: by the ranges of the inputs, the test of this IF never holds, so no run executes its THEN",
-        ),
-        Finding::NeverFalse { .. } => String::from_str(
-            alloc,
-            "never-false: by the ranges of the inputs, the test of this IF always holds, so no run executes its ELSE",
-        ),
+        Finding::NeverTrue { first, .. } => {
+            let so = then_words(*first);
+            format!(in alloc;
+                "never-true: by the ranges of the inputs, the test of this IF never holds{so}"
+            )
+        }
+        Finding::NeverFalse { first, .. } => {
+            let so = else_words(*first);
+            format!(in alloc;
+                "never-false: by the ranges of the inputs, the test of this IF always holds{so}"
+            )
+        }
+    }
+}
+
+/// What follows from a test that never holds, where its THEN has a first statement.
+fn then_words(first: Option<u32>) -> &'static str
+    ensures { result.now ≡ then_words first }
+{
+    match first {
+        Some(_) => ", so no run executes its THEN",
+        None => "",
+    }
+}
+
+/// What follows from a test that always holds, where its ELSE has a first statement.
+fn else_words(first: Option<u32>) -> &'static str
+    ensures { result.now ≡ else_words first }
+{
+    match first {
+        Some(_) => ", so no run executes its ELSE",
+        None => "",
     }
 }

@@ -19,7 +19,7 @@ add_methods-requires c =
 pub returns : goal.returns
 returns c =
     on_ok_weaker c.add_methods.result
-    (λ three. three_parts c.args.names.now c.args.reached.now c.main.result c.args.plan.now c.deref.result.now
+    (λ three. three_parts c.args.names.now c.args.reached.now c.args.exits.now c.main.result c.args.plan.now c.deref.result.now
     c.deref-2.result.now c.args.out.now.items _ _ _ _ c.deref.ensures.value c.deref-2.ensures.value c.main.ensures
     c.in_ok-add_declarations.ensures c.in_ok-add_body.ensures three)
     c.add_methods.ensures
