@@ -6,7 +6,7 @@ use Rattle.pap_tree.specs.Flowchart.{Flowchart}
 use Rattle.limits_file.specs.declared.limits.Limits.{Limits}
 use Rattle.interval_walk.specs.Ranges.{Ranges}
 use Rattle.interval_walk.specs.Analysis.{analysed}
-use Rattle.interval_analysis.specs.Surveys.{StatementPlace, AreReached}
+use Rattle.interval_analysis.specs.Surveys.{StatementPlace, ExitPlace, AreReached, AreOpen}
 use Rattle.pap_plan.specs.Acceptance.{HasBindings}
 use Rattle.plan_notes.specs.declared.notes.Notes.{Notes}
 use Rattle.plan_notes.specs.declared.tag.Mark.{Mark}
@@ -18,13 +18,16 @@ use Rattle.plain_words.specs.Places.{NamedText}
 use Rattle.author_cli.specs.Linted.{findings_words, IsFindingsText, TellsFindings}
 
 -- the lines of the findings, and how many there are
-pub findings_told : (plan : NamedText) (f : Flowchart) (l : Limits) (reached : BTreeSet StatementPlace) (notes : Notes)
-    (marks : List Mark) (found : List Finding) (text : List ℕ) (reason : Option (List ℕ)) → AreReached f l reached
-    → HasNotes plan.bytes notes → marks ≡ notes.marks.items → found ≡ findings_of f reached
+pub findings_told : (plan : NamedText) (f : Flowchart) (l : Limits) (reached : BTreeSet StatementPlace) (exits : BTreeSet ExitPlace)
+    (notes : Notes) (marks : List Mark) (found : List Finding) (text : List ℕ) (reason : Option (List ℕ)) → AreReached f l reached
+    → AreOpen f l exits
+    → HasNotes plan.bytes notes → marks ≡ notes.marks.items → found ≡ findings_of f reached exits
     → text ≡ finding_lines plan marks found → reason ≡ findings_words found → IsFindingsText plan f l text reason
-findings_told plan f l reached notes marks found text reason are noted m e w s = record {
+findings_told plan f l reached exits notes marks found text reason are open_are noted m e w s = record {
   reached = reached;
   are_reached = are;
+  exits = exits;
+  are_open = open_are;
   notes = notes;
   noted = noted;
   written = w ∙ ap (λ ms. finding_lines plan ms found) m ∙ ap (λ ds. finding_lines plan notes.marks.items ds) e;

@@ -4,7 +4,7 @@ use Rattle.std.specs.BTreeSet.{BTreeSet}
 use Rattle.std.specs.Fmt.{decimal as number}
 use Rattle.pap_tree.specs.Flowchart.{Flowchart}
 use Rattle.limits_file.specs.declared.limits.Limits.{Limits}
-use Rattle.interval_analysis.specs.Surveys.{StatementPlace, AreReached}
+use Rattle.interval_analysis.specs.Surveys.{StatementPlace, ExitPlace, AreReached, AreOpen}
 use Rattle.pap_plan.specs.declared.refusal.PlanRefusal.{PlanRefusal}
 use Rattle.pap_plan.specs.Acceptance.{Meaning, IsAccepted}
 use Rattle.plan_notes.specs.declared.notes.Notes.{Notes}
@@ -25,10 +25,12 @@ pub record IsFindingsText (plan : NamedText) (f : Flowchart) (limits : Limits) (
     : Type 0 where
   pub reached : BTreeSet StatementPlace
   pub are_reached : AreReached f limits reached
+  pub exits : BTreeSet ExitPlace
+  pub are_open : AreOpen f limits exits
   pub notes : Notes
   pub noted : HasNotes plan.bytes notes
-  pub written : text ≡ finding_lines plan notes.marks.items (findings_of f reached)
-  pub said : reason ≡ findings_words (findings_of f reached)
+  pub written : text ≡ finding_lines plan notes.marks.items (findings_of f reached exits)
+  pub said : reason ≡ findings_words (findings_of f reached exits)
 
 -- the plan is accepted, and the text has a line for each finding in it
 pub record TellsFindings (plan : NamedText) (limits text : List ℕ) (reason : Option (List ℕ)) : Type 0 where

@@ -1,7 +1,7 @@
 //! What a plan has in vain.
 ghost use Rattle.std.specs.Prelude.{◌≡◌, IfOk};
 ghost use Rattle.pap_tree.specs.Flowchart.{flowchart_of};
-ghost use Rattle.interval_analysis.specs.Surveys.{AreReached};
+ghost use Rattle.interval_analysis.specs.Surveys.{AreOpen, AreReached};
 ghost use Rattle.pap_plan.specs.BoundPlans.{IsBoundPlan};
 ghost use Rattle.plain_words.specs.Places.{named_text};
 ghost use Rattle.author_cli.specs.Ends.{words_of};
@@ -56,12 +56,13 @@ fn tell_findings(
     bound: &BoundPlan,
     survey: &Survey,
 ) -> Result<Answer, AllocError>
-    requires { AreReached (flowchart_of bound.now.typed) bound.now.limits survey.now.reached }
+    requires reached { AreReached (flowchart_of bound.now.typed) bound.now.limits survey.now.reached }
+    requires exits { AreOpen (flowchart_of bound.now.typed) bound.now.limits survey.now.exits }
     ensures { IfOk result (λ answer. IsFindingsText (named_text plan.entry)
         (flowchart_of bound.now.typed) bound.now.limits answer.text.items (words_of answer.reason)) }
 {
     let notes = read_notes(alloc, plan.bytes)?;
-    let found = findings(alloc, &bound.typed, &survey.reached)?;
+    let found = findings(alloc, &bound.typed, &survey.reached, &survey.exits)?;
     let text = findings_text(alloc, plan, &notes.marks, &found)?;
     let reason = findings_words(alloc, &found)?;
     Ok(Answer { text, reason })
