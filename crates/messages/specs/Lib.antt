@@ -1,0 +1,6 @@
+pub mod Adapters
+pub mod Json
+pub mod Lines
+pub mod Objects
+pub mod Turns
+pub mod private

@@ -1,0 +1,36 @@
+-- A message as a line of words.
+use Rattle.std.specs.Prelude.{ℕ, List, [], ◌++◌, Option, None, Some, codes}
+use Rattle.std.specs.Borrow.{Bor}
+use Rattle.std.specs.Fmt.{decimal}
+use Rattle.messages.specs.declared.message.Message.{Message}
+use Rattle.messages.specs.declared.message.Position.{Position}
+use Rattle.messages.specs.declared.message.Site.{Site}
+
+-- LINE:COLUMN and a colon and a space
+abbrev pub position_of : Position → List ℕ
+position_of at = decimal at.line ++ (codes ":" ++ (decimal at.column ++ codes ": "))
+
+-- what stands behind a file's name: a place in it, or that it is the file as a whole
+abbrev pub behind_file : Option Position → List ℕ
+behind_file None = codes ": "
+behind_file (Some at) = codes ":" ++ position_of at
+
+-- FILE:LINE:COLUMN or FILE, and a colon and a space
+abbrev pub site_text : Option Site → List ℕ
+site_text None = []
+site_text (Some site) = site.file.now ++ behind_file site.at
+
+-- stdin:NUMBER and a colon and a space
+abbrev pub script_text : Option ℕ → List ℕ
+script_text None = []
+script_text (Some number) = codes "stdin:" ++ (decimal number ++ codes ": ")
+
+-- a semicolon and a space, and what helps
+abbrev pub help_text : Option (Bor (List ℕ)) → List ℕ
+help_text None = []
+help_text (Some help) = codes "; " ++ help.now
+
+-- the line of a message: the script's line, the place in a file, what is wrong, and behind a semicolon what helps
+abbrev pub message_words : Message → List ℕ
+message_words message =
+    script_text message.script_line ++ (site_text message.site ++ (message.wrong.now ++ help_text message.help))
