@@ -6,10 +6,11 @@ ghost use Rattle.std.specs.Prelude.{◌≡◌};
 mod wrong_words;
 
 use crate::wrong_words::what_is_wrong;
+use messages::{AnswerSink, LastRefusal, MessageForm, MessageSink};
 use outside::{FailedFile, Files, RealFiles, Sink, SinkFault, Source, StdSink, StdSource};
 use pap_cli::{LineCounts, Status, papcalc_told};
 use plain_words::one_line;
-use std::alloc::Global;
+use std::alloc::{AllocError, Global};
 use std::env;
 use std::io::{self, ErrorKind};
 use std::marker::Brand;
@@ -23,6 +24,9 @@ const USAGE: &str = "usage: papcalc check PLAN LIMITS
        papcalc save < SCRIPT
        papcalc sample N
        papcalc --help";
+
+/// The variable of the environment that says in which form messages are written.
+const MESSAGES: &str = "PAPCALC_MESSAGES";
 
 const UNSAVED_BOOK: &str =
     "papcalc: the book isn't saved: `refused book Filed` where a month was filed (save before the first `file`, and file again in the \
@@ -125,46 +129,78 @@ fn own_answer(words: &[String]) -> Option<&'static str> {
     }
 }
 
+/// The form that the environment asks for.
+fn form_of(rt: &HostRuntime) -> MessageForm {
+    match env::var(rt, MESSAGES) {
+        Ok(word) => MessageForm::named(word.as_str()),
+        Err(_) => MessageForm::Words,
+    }
+}
+
 /// Says on standard error what is wrong. That this may fail changes nothing.
-fn explain(rt: &HostRuntime, status: Status, words: &[String]) {
-    let _ = match status {
-        Status::Done | Status::Refused | Status::FileFault | Status::WriteFault => Ok(()),
-        Status::BadWords => {
-            explain_words(rt, words);
-            Ok(())
-        }
-        Status::ReadFault => eprintln!(rt; "papcalc: standard input can't be read"),
-        Status::NoMemory => eprintln!(rt; "papcalc: out of memory"),
-        Status::ScriptLong => eprintln!(rt; "papcalc: the script is longer than 67108864 bytes"),
-    };
+fn explain<S: Sink + Drop>(
+    alloc: Global,
+    notes: &mut MessageSink<'_, S>,
+    status: Status,
+    words: &[String],
+) {
+    match status {
+        Status::Done | Status::Refused | Status::FileFault | Status::WriteFault => {}
+        Status::BadWords => explain_words(alloc, notes, words),
+        Status::ReadFault => notes.tell("papcalc: standard input can't be read"),
+        Status::NoMemory => notes.tell("papcalc: out of memory"),
+        Status::ScriptLong => notes.tell("papcalc: the script is longer than 67108864 bytes"),
+    }
 }
 
 /// Says on standard error what is wrong with the words, and which there are. That this may fail changes nothing.
-fn explain_words(rt: &HostRuntime, words: &[String]) {
-    if let Ok(Some(said)) = what_is_wrong(rt.alloc(), words) {
-        let _ = eprintln!(rt; "papcalc: {said}");
+fn explain_words<S: Sink + Drop>(alloc: Global, notes: &mut MessageSink<'_, S>, words: &[String]) {
+    if let Ok(Some(said)) = what_is_wrong(alloc, words)
+        && let Ok(text) = format!(in alloc; "papcalc: {said}")
+    {
+        notes.tell(&text);
     }
-    let _ = eprintln!(rt; "{USAGE}");
+    notes.tell(USAGE);
 }
 
 /// Says on standard error which file can't be read and why, and which line of a script names it where one does, in one line
 /// whatever the file's name is. That this may fail changes nothing.
-fn explain_file_fault(rt: &HostRuntime, file: &FailedFile, line: Option<u64>) {
-    let Ok(name) = one_line(rt.alloc(), &file.name) else {
-        return;
-    };
+fn explain_file_fault<S: Sink + Drop>(
+    alloc: Global,
+    notes: &mut MessageSink<'_, S>,
+    file: &FailedFile,
+    line: Option<u64>,
+) {
+    if let Ok(text) = file_fault_text(alloc, file, line) {
+        notes.tell(&text);
+    }
+}
+
+/// Which file can't be read and why, and at which line of a script.
+fn file_fault_text(
+    alloc: Global,
+    file: &FailedFile,
+    line: Option<u64>,
+) -> Result<String, AllocError> {
+    let name = one_line(alloc, &file.name)?;
     let fault = file.fault;
-    let _ = match line {
+    match line {
         Some(line) => {
-            eprintln!(rt; "stdin:{line}: the file `{name}`: {fault}; the script ends here")
+            format!(in alloc; "stdin:{line}: the file `{name}`: {fault}; the script ends here")
         }
-        None => eprintln!(rt; "papcalc: the file `{name}`: {fault}"),
-    };
+        None => format!(in alloc; "papcalc: the file `{name}`: {fault}"),
+    }
 }
 
 /// Says on standard error why the output can't be written. That this may fail changes nothing.
-fn explain_write_fault(rt: &HostRuntime, fault: SinkFault) {
-    let _ = eprintln!(rt; "papcalc: standard output can't be written: {fault}");
+fn explain_write_fault<S: Sink + Drop>(
+    alloc: Global,
+    notes: &mut MessageSink<'_, S>,
+    fault: SinkFault,
+) {
+    if let Ok(text) = format!(in alloc; "papcalc: standard output can't be written: {fault}") {
+        notes.tell(&text);
+    }
 }
 
 /// The line of the script at which a file failed, where the words ask for a script: the one behind those that were answered.
@@ -176,30 +212,37 @@ fn failed_line(words: &[String], counts: LineCounts) -> Option<u64> {
 }
 
 /// Says on standard error that `save` has not saved the book, and why. That this may fail changes nothing.
-fn explain_unsaved(rt: &HostRuntime, counts: LineCounts) {
+fn explain_unsaved<S: Sink + Drop>(notes: &mut MessageSink<'_, S>, counts: LineCounts) {
     let unsaved = if counts.any() {
         UNSAVED_LINES
     } else {
         UNSAVED_BOOK
     };
-    let _ = eprintln!(rt; "{unsaved}");
+    notes.tell(unsaved);
 }
 
 /// Ends the program: says what is wrong, and gives the status' number.
-fn end(rt: &HostRuntime, status: Status, words: &[String]) -> ExitCode {
-    explain(rt, status, words);
+fn end<S: Sink + Drop>(
+    alloc: Global,
+    notes: &mut MessageSink<'_, S>,
+    status: Status,
+    words: &[String],
+) -> ExitCode {
+    explain(alloc, notes, status, words);
     ExitCode::from(status.number())
 }
 
 /// Carries out the words over the system's files and streams. Standard error is the place for the notes.
-fn carried_out(rt: &HostRuntime, words: &[String]) -> ExitCode {
+fn carried_out(rt: &HostRuntime, form: MessageForm, words: &[String]) -> ExitCode {
+    let alloc = rt.alloc();
+    let last = LastRefusal::new(alloc);
     let mut files = RealFiles::new(rt);
     let mut source = StdSource::new(rt.reader());
-    let mut sink = StdSink::new(io::writer(rt));
-    let mut notes = StdSink::new(rt.stderr());
+    let mut sink = AnswerSink::new(StdSink::new(io::writer(rt)), form, &last);
+    let mut notes = MessageSink::new(StdSink::new(rt.stderr()), form, alloc, words, &last);
     let mut counts = LineCounts::new();
     let status = counted::<Brand, _, _, _, _>(
-        rt.alloc(),
+        alloc,
         words,
         &mut files,
         &mut source,
@@ -212,40 +255,53 @@ fn carried_out(rt: &HostRuntime, words: &[String]) -> ExitCode {
         && word.as_str() == "save"
         && status == Status::Refused
     {
-        explain_unsaved(rt, counts);
+        explain_unsaved(&mut notes, counts);
     }
     if status == Status::FileFault
         && let Some(file) = files.failed_file()
     {
-        explain_file_fault(rt, file, failed_line(words, counts));
+        explain_file_fault(alloc, &mut notes, file, failed_line(words, counts));
     }
     if status == Status::WriteFault
-        && let Some(fault) = sink.fault()
+        && let Some(fault) = sink.inner().fault()
     {
-        explain_write_fault(rt, fault);
+        explain_write_fault(alloc, &mut notes, fault);
     }
-    end(rt, status, words)
+    end(alloc, &mut notes, status, words)
+}
+
+/// Writes what the program answers by itself.
+fn answer_itself(rt: &HostRuntime, form: MessageForm, text: &str) -> ExitCode {
+    let Err(error) = println!(rt; "{text}") else {
+        return ExitCode::from(Status::Done.number());
+    };
+    let alloc = rt.alloc();
+    let last = LastRefusal::new(alloc);
+    let mut notes = MessageSink::new(StdSink::new(rt.stderr()), form, alloc, &[], &last);
+    explain_write_fault(alloc, &mut notes, SinkFault::of(error.kind()));
+    end(alloc, &mut notes, Status::WriteFault, &[])
+}
+
+/// Ends the program where its words can't be read.
+fn end_without_words(rt: &HostRuntime, form: MessageForm, fault: ErrorKind) -> ExitCode {
+    let alloc = rt.alloc();
+    let last = LastRefusal::new(alloc);
+    let mut notes = MessageSink::new(StdSink::new(rt.stderr()), form, alloc, &[], &last);
+    if fault == ErrorKind::OutOfMemory {
+        return end(alloc, &mut notes, Status::NoMemory, &[]);
+    }
+    notes.tell("papcalc: a word is not UTF-8");
+    end(alloc, &mut notes, Status::BadWords, &[])
 }
 
 fn main(rt: HostRuntime) -> ExitCode {
+    let form = form_of(&rt);
     let words = match words_of(&rt) {
         Ok(words) => words,
-        Err(error) if error.kind() == ErrorKind::OutOfMemory => {
-            return end(&rt, Status::NoMemory, &[]);
-        }
-        Err(_) => {
-            let _ = eprintln!(rt; "papcalc: a word is not UTF-8");
-            return end(&rt, Status::BadWords, &[]);
-        }
+        Err(error) => return end_without_words(&rt, form, error.kind()),
     };
     match own_answer(&words) {
-        Some(text) => match println!(rt; "{text}") {
-            Ok(()) => end(&rt, Status::Done, &[]),
-            Err(error) => {
-                explain_write_fault(&rt, SinkFault::of(error.kind()));
-                end(&rt, Status::WriteFault, &[])
-            }
-        },
-        None => carried_out(&rt, &words),
+        Some(text) => answer_itself(&rt, form, text),
+        None => carried_out(&rt, form, &words),
     }
 }
