@@ -122,7 +122,8 @@ class Program:
 
 def explain(path: str, folder: str, before: bytes, line: bytes) -> str:
     """What papcalc says on standard error of a line that it refuses behind these others, without the line's number."""
-    done = subprocess.run([path, "run"], cwd=folder, input=before + line, stdout=subprocess.DEVNULL, stderr=subprocess.PIPE, check=False)
+    done = subprocess.run([path, "run"], cwd=folder, input=before + line, stdout=subprocess.DEVNULL, stderr=subprocess.PIPE, check=False,
+                          env={**os.environ, "PAPCALC_MESSAGES": "words"})
     number = before.count(b"\n") + 1
     mark = f"stdin:{number}: "
     said = done.stderr.decode("utf-8", "replace").splitlines()
