@@ -14,13 +14,15 @@ import sys
 import tempfile
 
 
-COMMAND = re.compile(r"\$ (papcalc|pap_author) (.*)")
+COMMAND = re.compile(r"\$ (?:(PAPCALC_MESSAGES)=(\w+) )?(papcalc|pap_author) (.*)")
 
 
 class Table:
-    """What rows are put to: the words for a program, and texts of files and of standard input, with places for what a row asks."""
+    """What rows are put to: a variable of the environment, if any, the words for a program, and texts of files and of standard input, with
+    places for what a row asks."""
 
-    def __init__(self, program, words, texts):
+    def __init__(self, variable, value, program, words, texts):
+        self.environment = {variable: value} if variable else {}
         self.program, self.words, self.texts = program, words, texts
 
 
@@ -121,7 +123,8 @@ def answered(programs, row):
         for name, text in files.items():
             with open(os.path.join(folder, name), "wb") as file:
                 file.write(text)
-        done = subprocess.run([programs[row.table.program], *words.split()], input=script, cwd=folder, capture_output=True, timeout=300)
+        done = subprocess.run([programs[row.table.program], *words.split()], input=script, cwd=folder, capture_output=True, timeout=300,
+                              env={**os.environ, **row.table.environment})
     came = Row(row.table, row.asked)
     came.out = lines_of(done.stdout)
     came.err = [] if unseen else lines_of(done.stderr)

@@ -17,7 +17,7 @@ LAYERS = [
     ("what flowcharts mean", ["interval_walk", "call_order", "pap_types", "pap_machine"]),
     ("texts", ["pap_expr", "expr_grammar", "expr_tokens", "plan_notes", "pap_reader", "limits_file"]),
     ("numbers and trees", ["interval_num", "pap_tree", "scaled_decimal"]),
-    ("below all", ["outside", "rising_lists", "steps"]),
+    ("below all", ["messages", "outside", "rising_lists", "steps"]),
 ]
 
 STEPS = [
