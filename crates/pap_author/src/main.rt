@@ -2,8 +2,10 @@
 #![tactic(auto)]
 
 use author_cli::{Stop, exit_number, pap_author};
-use outside::{FailedFile, RealFiles, StdSink};
+use messages::{AnswerSink, LastRefusal, MessageForm, MessageSink};
+use outside::{FailedFile, RealFiles, Sink, StdSink, put_all};
 use plain_words::one_line;
+use std::alloc::Global;
 use std::env;
 use std::io::{self, ErrorKind};
 use std::process::ExitCode;
@@ -15,6 +17,9 @@ const USAGE: &str =
     pap_author text compare OLD NEW | \
     pap_author text trace PLAN LIMITS NAME=VALUE .. | \
     pap_author text cover PLAN LIMITS TABLE | pap_author text cover PLAN LIMITS TABLE --at-least N";
+
+/// The variable of the environment that says in which form messages are written.
+const MESSAGES: &str = "PAPCALC_MESSAGES";
 
 /// The answer to `--version`, with the checksum of the prover's rules by which the contracts are proved.
 const VERSION: &str = "pap_author 1.0.0 (rules dac8208d650f15bf)";
@@ -90,62 +95,111 @@ fn own_answer(words: &[String]) -> Option<&'static str> {
     }
 }
 
+/// The form that the environment asks for.
+fn form_of(rt: &HostRuntime) -> MessageForm {
+    match env::var(rt, MESSAGES) {
+        Ok(word) => MessageForm::named(word.as_str()),
+        Err(_) => MessageForm::Words,
+    }
+}
+
 /// Says on standard error what is wrong, in one line. That this may fail changes nothing.
-fn explain(rt: &HostRuntime, ended: &Result<Option<String>, Stop>, failed: Option<&FailedFile>) {
-    let _ = match ended {
-        Ok(None) => Ok(()),
-        Ok(Some(reason)) => eprintln!(rt; "{reason}"),
-        Err(Stop::Words) => eprintln!(rt; "{USAGE}"),
-        Err(Stop::File) => {
-            explain_file_fault(rt, failed);
-            Ok(())
-        }
-        Err(Stop::Write) => eprintln!(rt; "pap_author: standard output can't be written"),
-        Err(Stop::Memory) => eprintln!(rt; "pap_author: out of memory"),
-    };
+fn explain<S: Sink + Drop>(
+    alloc: Global,
+    notes: &mut MessageSink<'_, S>,
+    ended: &Result<Option<String>, Stop>,
+    failed: Option<&FailedFile>,
+) {
+    match ended {
+        Ok(None) => {}
+        Ok(Some(reason)) => explain_refusal(alloc, notes, reason),
+        Err(Stop::Words) => notes.tell(USAGE),
+        Err(Stop::File) => explain_file_fault(alloc, notes, failed),
+        Err(Stop::Write) => notes.tell("pap_author: standard output can't be written"),
+        Err(Stop::Memory) => notes.tell("pap_author: out of memory"),
+    }
+}
+
+/// Says on standard error why something is refused. That this may fail changes nothing.
+fn explain_refusal<S: Sink + Drop>(alloc: Global, notes: &mut MessageSink<'_, S>, reason: &str) {
+    if let Ok(line) = format!(in alloc; "{reason}\n") {
+        let _ = put_all(notes, line.as_bytes());
+    }
 }
 
 /// Says on standard error which file can't be read and why, in one line whatever its name is. That this may fail changes nothing.
-fn explain_file_fault(rt: &HostRuntime, failed: Option<&FailedFile>) {
+fn explain_file_fault<S: Sink + Drop>(
+    alloc: Global,
+    notes: &mut MessageSink<'_, S>,
+    failed: Option<&FailedFile>,
+) {
     if let Some(file) = failed
-        && let Ok(name) = one_line(rt.alloc(), &file.name)
+        && let Ok(name) = one_line(alloc, &file.name)
     {
         let fault = file.fault;
-        let _ = eprintln!(rt; "pap_author: the file `{name}`: {fault}");
+        if let Ok(text) = format!(in alloc; "pap_author: the file `{name}`: {fault}") {
+            notes.tell(&text);
+        }
     }
 }
 
 /// Ends the program: says what is wrong, and gives its number.
-fn end(
-    rt: &HostRuntime,
+fn end<S: Sink + Drop>(
+    alloc: Global,
+    notes: &mut MessageSink<'_, S>,
     ended: &Result<Option<String>, Stop>,
     failed: Option<&FailedFile>,
 ) -> ExitCode {
-    explain(rt, ended, failed);
+    explain(alloc, notes, ended, failed);
     ExitCode::from(exit_number(ended))
+}
+
+/// Ends the program before it has read a file.
+fn end_early(
+    rt: &HostRuntime,
+    form: MessageForm,
+    said: Option<&str>,
+    ended: &Result<Option<String>, Stop>,
+) -> ExitCode {
+    let alloc = rt.alloc();
+    let last = LastRefusal::new(alloc);
+    let mut notes = MessageSink::new(StdSink::new(rt.stderr()), form, alloc, &[], &last);
+    if let Some(text) = said {
+        notes.tell(text);
+    }
+    end(alloc, &mut notes, ended, None)
+}
+
+/// Carries out the words over the system's files and standard output.
+fn carried_out(rt: &HostRuntime, form: MessageForm, words: &[String]) -> ExitCode {
+    let alloc = rt.alloc();
+    let last = LastRefusal::new(alloc);
+    let mut files = RealFiles::new(rt);
+    let mut sink = AnswerSink::new(StdSink::new(io::writer(rt)), form, &last);
+    let mut notes = MessageSink::new(StdSink::new(rt.stderr()), form, alloc, words, &last);
+    let ended = pap_author(alloc, words, &mut files, &mut sink);
+    end(alloc, &mut notes, &ended, files.failed_file())
 }
 
 /// Answers `--help` and `--version` by itself, and leaves all else to the top call.
 fn main(rt: HostRuntime) -> ExitCode {
+    let form = form_of(&rt);
     let words = match words_of(&rt) {
         Ok(words) => words,
         Err(error) if error.kind() == ErrorKind::OutOfMemory => {
-            return end(&rt, &Err(Stop::Memory), None);
+            return end_early(&rt, form, None, &Err(Stop::Memory));
         }
         Err(_) => {
-            let _ = eprintln!(rt; "pap_author: a word is not UTF-8");
-            return end(&rt, &Err(Stop::Words), None);
+            let said = Some("pap_author: a word is not UTF-8");
+            return end_early(&rt, form, said, &Err(Stop::Words));
         }
     };
-    if let Some(text) = own_answer(&words) {
-        let ended = match println!(rt; "{text}") {
-            Ok(()) => Ok(None),
-            Err(_) => Err(Stop::Write),
-        };
-        return end(&rt, &ended, None);
-    }
-    let mut files = RealFiles::new(&rt);
-    let mut sink = StdSink::new(io::writer(&rt));
-    let ended = pap_author(rt.alloc(), &words, &mut files, &mut sink);
-    end(&rt, &ended, files.failed_file())
+    let Some(text) = own_answer(&words) else {
+        return carried_out(&rt, form, &words);
+    };
+    let ended = match println!(rt; "{text}") {
+        Ok(()) => Ok(None),
+        Err(_) => Err(Stop::Write),
+    };
+    end_early(&rt, form, None, &ended)
 }
