@@ -115,10 +115,23 @@ run_templates =
     codes "<p class=\"blocked\"><strong>No run.</strong> %.</p>\n<p><code>%</code></p></div></section>\n" ∷
     []
 
--- of a drawing in which the way of a run is marked
+-- of a drawing that shows what is known of its statements: the way of a run is marked, or what no run comes to
 abbrev pub marked_templates : List (List ℕ)
 marked_templates =
     codes "</ul><p><a href=\"#declarations\">Declarations</a></p></nav><main class=\"traced\">\n" ∷
+    codes "</ul><p><a href=\"#declarations\">Declarations</a></p></nav><main class=\"ranged\">\n" ∷
+    codes "<p class=\"key\">Under each assignment stands the range of what it puts: from the least to the greatest value that a run within the ranges of the inputs can give it. What no such run comes to is grey and dashed, and says so.</p>\n" ∷
+    codes "<g id=\"%:%\" role=\"group\" aria-label=\"%:%%: %; %\" class=\"s\">" ∷
+    codes "<g id=\"%:%\" role=\"group\" aria-label=\"%:%%: %; %\" class=\"s missed\">" ∷
+    codes "<g id=\"%:%\" role=\"group\" aria-label=\"%:%%: %; %\" class=\"s dead\">" ∷
+    codes "<rect class=\"b missed\" x=\"%\" y=\"%\" width=\"%\" height=\"%\"/>" ∷
+    codes "<rect class=\"b dead\" x=\"%\" y=\"%\" width=\"%\" height=\"%\"/>" ∷
+    codes "<path class=\"d missed\" d=\"M% %l% -%h%l% %l-% %h-%z\"/>" ∷
+    codes "<path class=\"d dead\" d=\"M% %l% -%h%l% %l-% %h-%z\"/>" ∷
+    codes "<text class=\"y missed\" x=\"%\" y=\"%\">% missed</text>" ∷
+    codes "<text class=\"e missed\" x=\"%\" y=\"%\">%</text><text class=\"y missed\" x=\"%\" y=\"%\">missed</text>" ∷
+    codes "<text class=\"y dead\" x=\"%\" y=\"%\">% never</text>" ∷
+    codes "<text class=\"e dead\" x=\"%\" y=\"%\">%</text><text class=\"y dead\" x=\"%\" y=\"%\">never</text>" ∷
     codes "<g id=\"%:%\" role=\"group\" aria-label=\"%:%%: %; %\" class=\"s ran\">" ∷
     codes "<rect class=\"b ran\" x=\"%\" y=\"%\" width=\"%\" height=\"%\"/>" ∷
     codes "<path class=\"d ran\" d=\"M% %l% -%h%l% %l-% %h-%z\"/>" ∷

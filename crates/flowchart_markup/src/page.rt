@@ -1,5 +1,5 @@
 //! A page as it is written.
-ghost use Rattle.std.specs.Prelude.{◌≡◌, ◌++◌, [], IsTrue, OnOk, map};
+ghost use Rattle.std.specs.Prelude.{◌≡◌, ◌++◌, ◌↔◌, [], IsTrue, OnOk, length, map};
 ghost use Rattle.std.specs.List.{list_all};
 ghost use Rattle.flowchart_markup.specs.Escapes.{escaped};
 ghost use Rattle.flowchart_markup.specs.Templates.{own_templates, is_own};
@@ -43,6 +43,13 @@ impl Page {
     /// Where a page takes its memory.
     pub fn alloc(&self) -> Global {
         self.alloc
+    }
+
+    /// Whether nothing stands on it.
+    pub fn is_empty(&self) -> bool
+        ensures { IsTrue result ↔ (length self.now ≡ 0) }
+    {
+        self.bytes.is_empty()
     }
 
     /// The bytes of a page.
