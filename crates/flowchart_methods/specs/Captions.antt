@@ -7,6 +7,8 @@ use Rattle.chart_layout.specs.Statements.{statements_of, AreDrawn}
 use Rattle.flowchart_markup.specs.Escapes.{escaped}
 use Rattle.flowchart_methods.specs.declared.conditions.Condition.{Condition}
 use Rattle.flowchart_methods.specs.Conditions.{conditions_of, condition_at}
+use Rattle.flowchart_methods.specs.declared.kind.MarkKind.{MarkKind}
+use Rattle.flowchart_methods.specs.declared.kind.MarkKind.TheVariants.{Nothing, Run, Told, Missed, Dead}
 use Rattle.flowchart_methods.specs.Marks.{Marked, mark_at, marks_at, mark_words}
 use Rattle.flowchart_methods.specs.Sites.{NamedStatement, number_in}
 
@@ -21,30 +23,38 @@ condition_text method (Some condition) =
     codes ", where " ++ (method ++ (codes ":" ++ (decimal condition.test
     ++ (if condition.holds then codes " holds" else codes " does not hold"))))
 
--- the class that a statement is shown in: the refused one is marked, and the executed ones of a run, with what the run did there
-abbrev pub caption_end : Option (List ℕ) → Bool → List ℕ
-caption_end (Some done) is_refused = codes "; " ++ (escaped done ++ codes "\" class=\"s ran\">")
-caption_end None true = codes "\" class=\"s bad\">"
-caption_end None false = codes "\" class=\"s\">"
+-- the class in which a statement is shown of which this kind of thing is known
+abbrev pub kind_class : MarkKind → List ℕ
+kind_class Nothing = codes "\" class=\"s\">"
+kind_class (Run first) = codes "\" class=\"s ran\">"
+kind_class Told = codes "\" class=\"s\">"
+kind_class Missed = codes "\" class=\"s missed\">"
+kind_class Dead = codes "\" class=\"s dead\">"
 
--- what a run did at a statement, where it executed it
-abbrev pub done_words : Marked → Option (List ℕ)
-done_words m = if m.is_run then Some (mark_words m) else None
+-- the class in which a statement is shown of which nothing is known: the refused one is marked
+abbrev pub bare_class : Bool → List ℕ
+bare_class true = codes "\" class=\"s bad\">"
+bare_class false = codes "\" class=\"s\">"
+
+-- the end of a caption: what is known of its statement, in words, where there are some, and its class
+abbrev pub caption_end : Option (List ℕ) → MarkKind → Bool → List ℕ
+caption_end (Some words) kind is_refused = codes "; " ++ (escaped words ++ kind_class kind)
+caption_end None kind is_refused = bare_class is_refused
 
 -- the place of a statement, to which links lead; what is read aloud of it, that is its place, its condition in these words, its text
--- and what a run did there, where it came there; and its class
-abbrev pub placed_caption : List ℕ → List ℕ → Option (List ℕ) → Drawn → List ℕ
-placed_caption method condition done d =
+-- and what is known of it, in these words; and its class
+abbrev pub placed_caption : List ℕ → List ℕ → Option (List ℕ) → MarkKind → Drawn → List ℕ
+placed_caption method condition words kind d =
     codes "<g id=\"" ++ (method ++ (codes ":" ++ (decimal d.number
     ++ (codes "\" role=\"group\" aria-label=\"" ++ (method ++ (codes ":" ++ (decimal d.number
-    ++ (escaped condition ++ (codes ": " ++ (escaped d.text ++ caption_end done d.is_refused))))))))))
+    ++ (escaped condition ++ (codes ": " ++ (escaped d.text ++ caption_end words kind d.is_refused))))))))))
 
--- the caption of a statement that stands under a condition, and at which a run did this
+-- the caption of a statement that stands under a condition, and of which this is known
 abbrev pub statement_caption : List ℕ → Option Condition → Marked → Drawn → List ℕ
 statement_caption method condition mark d =
-    placed_caption method (condition_text method condition) (done_words mark) d
+    placed_caption method (condition_text method condition) (mark_words mark) mark.kind d
 
--- what stands beside the statements of a method, by their numbers: under which conditions they stand, and what a run did at them
+-- what stands beside the statements of a method, by their numbers: under which conditions they stand, and what is known of them
 pub record Beside : Type 0 where
   pub conditions : List (Option Condition)
   pub marks : List Marked
@@ -58,13 +68,13 @@ statement_captions method beside ds =
 abbrev pub method_captions : List ℕ → Beside → List Drawn → List (List ℕ)
 method_captions name beside ds = heading name ∷ statement_captions name beside ds
 
--- what stands beside the statements of a body: the conditions under which they stand, and what a run did at them
+-- what stands beside the statements of a body: the conditions under which they stand, and what is known of them
 abbrev pub beside_of : RawBody → List Marked → Beside
 beside_of body marks = record { conditions = conditions_of body; marks = marks }
 
 -- The headings and captions of some methods, the first of which has a number, one method after the other: each has a caption for
--- each statement of its text, which says under which condition it stands, and what a run did there where it came there; and the
--- refused statement, where there is one, is marked.
+-- each statement of its text, which says under which condition it stands, and what is known of it; and the refused statement, where
+-- there is one, is marked.
 abbrev pub AreCaptionsFrom : ℕ → Option NamedStatement → List (List Marked) → List RawRoutine → List (List ℕ) → Type 0
 AreCaptionsFrom k refused marks [] captions = captions ≡ []
 AreCaptionsFrom k refused marks (m ∷ ms) captions =

@@ -27,14 +27,14 @@ pub struct Chapter<'a> {
     pub conditions: Vec<Option<Condition>>,
     /// The comments before it in the file.
     pub comments: &'a [String],
-    /// What a run did at its statements, by their numbers.
+    /// What is known of its statements, by their numbers.
     pub marks: &'a [Mark],
     /// The same, as far as the drawing needs it.
     pub passages: Vec<Passage>,
 }
 
 /// The methods, MAIN first, with the comments before each. The statement that `site` names is marked as the refused one. `marks`
-/// says by their numbers what a run did at the methods' statements, none where there is no run.
+/// says what is known of the methods' statements, by their numbers; there are none where nothing is.
 #[tactic(auto, using(crate::proofs::ChapterLemmas::first_chapter))]
 pub fn read_chapters<'a>(
     alloc: Global,

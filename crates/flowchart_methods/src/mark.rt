@@ -1,20 +1,19 @@
-//! What a run did at the statements of a flowchart, as its drawings show it.
-ghost use Rattle.std.specs.Prelude.{◌≡◌, ◌++◌, true, IfOk, OnOk, map, option_map};
-ghost use Rattle.flowchart_methods.specs.Marks.{unmarked, marks_at, way_words, spoken_line, spoken_lines};
-ghost use Rattle.flowchart_methods.specs.Captions.{done_words};
+//! What is known of the statements of a flowchart, as its drawings show it.
+ghost use Rattle.std.specs.Prelude.{◌≡◌, ◌++◌, IfOk, OnOk, map, option_map};
+ghost use Rattle.flowchart_methods.specs.Marks.{unmarked, marks_at, way_words, exit_words, spoken_line, spoken_lines, told_words, mark_words, has_some};
 
+use crate::kind::{ExitKind, MarkKind};
 use chart_layout::Passage;
 use std::alloc::{AllocError, Global};
 use std::marker::Model;
 
-/// What a run did at a statement.
+/// What is known of a statement.
 #[derive(Drop)]
 pub struct Mark {
-    is_run: bool,
-    first: u64,
+    kind: MarkKind,
     lines: Vec<Vec<u8>>,
-    yes: bool,
-    no: bool,
+    yes: ExitKind,
+    no: ExitKind,
 }
 
 impl Model for Mark {
@@ -23,10 +22,10 @@ impl Model for Mark {
 
     ghost Value = { Marked };
 
-    ghost view = { λ m. record { is_run = m.is_run; first = m.first; lines = map (λ l. l.items) m.lines.items; yes = m.yes; no = m.no } };
+    ghost view = { λ m. record { kind = m.kind; lines = map (λ l. l.items) m.lines.items; yes = m.yes; no = m.no } };
 }
 
-/// What a run did at the statements of a method, by their numbers.
+/// What is known of the statements of a method, by their numbers.
 #[derive(Drop)]
 pub struct MethodMarks {
     marks: Vec<Mark>,
@@ -42,52 +41,69 @@ impl Model for MethodMarks {
 }
 
 impl Mark {
-    /// The mark of a statement that the run executed: the number of the first of its entries in the list of the run, what came of it
-    /// line by line, and which ways the run took behind it, where it is a test.
-    pub fn new(first: u64, lines: Vec<Vec<u8>>, yes: bool, no: bool) -> Mark
+    /// The mark of a statement: what kind of thing is known of it, what is told of it line by line, and what is known of the exits
+    /// behind it, where it is a test.
+    pub fn new(kind: MarkKind, lines: Vec<Vec<u8>>, yes: ExitKind, no: ExitKind) -> Mark
         ensures { result ≡ record {
-          is_run = true;
-          first = first;
+          kind = kind;
           lines = map (λ l. l.items) lines.items;
           yes = yes;
           no = no;
         } }
     {
         Mark {
-            is_run: true,
-            first,
+            kind,
             lines,
             yes,
             no,
         }
     }
 
-    /// The mark of a statement that the run didn't execute.
+    /// The mark of a statement of which nothing is known.
     pub fn none(alloc: Global) -> Mark
         ensures { result ≡ unmarked }
     {
         Mark {
-            is_run: false,
-            first: 0,
+            kind: MarkKind::Nothing,
             lines: Vec::new(alloc),
-            yes: false,
-            no: false,
+            yes: ExitKind::Open,
+            no: ExitKind::Open,
         }
     }
 
-    /// The number of the first of its entries in the list of the run, where the run executed the statement.
-    pub(crate) fn first(&self) -> Option<u64> {
-        if self.is_run { Some(self.first) } else { None }
+    /// What kind of thing is known of the statement.
+    pub(crate) fn kind(&self) -> MarkKind
+        ensures { result ≡ self.now.kind }
+    {
+        self.kind
     }
 
-    /// What came of the statement.
+    /// What is told of the statement.
     pub(crate) fn lines(&self) -> &[Vec<u8>] {
         &self.lines
     }
 
-    /// Whether the run took a way behind a test: that where the test holds, or the other one.
-    pub(crate) fn takes(&self, holds: bool) -> bool {
+    /// What is known of the exit behind a test that is taken where the test holds, or of the other one.
+    pub(crate) fn exit(&self, holds: bool) -> ExitKind {
         if holds { self.yes } else { self.no }
+    }
+
+    /// What is known of the way on which both exits behind a test go.
+    pub(crate) fn either_exit(&self) -> ExitKind {
+        match self.kind {
+            MarkKind::Run(_) => ExitKind::Taken,
+            MarkKind::Nothing | MarkKind::Told | MarkKind::Missed | MarkKind::Dead => {
+                ExitKind::Open
+            }
+        }
+    }
+
+    /// Whether runs come to the statement.
+    pub(crate) fn is_visited(&self) -> bool {
+        match self.kind {
+            MarkKind::Run(_) | MarkKind::Told => true,
+            MarkKind::Nothing | MarkKind::Missed | MarkKind::Dead => false,
+        }
     }
 
     /// What the drawing of its method needs of it.
@@ -97,26 +113,62 @@ impl Mark {
             chars = line.len().max(chars);
         }
         Passage {
-            is_run: self.is_run,
-            yes: self.yes,
-            no: self.no,
+            is_run: self.is_visited(),
+            yes: is_way(self.kind, self.yes),
+            no: is_way(self.kind, self.no),
             lines: self.lines.len(),
             chars,
         }
     }
 
-    /// What the run did, as it is read aloud behind the text of the statement. `None` where the run didn't execute it.
-    pub(crate) fn done_words(&self, alloc: Global) -> Result<Option<Vec<u8>>, AllocError>
-        ensures { IfOk result (λ words. option_map (λ w. w.items) words ≡ done_words self.now) }
+    /// What is known of the statement, as it is read aloud behind its text. `None` where there is nothing to read.
+    pub(crate) fn words(&self, alloc: Global) -> Result<Option<Vec<u8>>, AllocError>
+        ensures { IfOk result (λ words. option_map (λ w. w.items) words ≡ mark_words self.now) }
     {
-        if !self.is_run {
-            return Ok(None);
+        let told = self.told_words(alloc)?;
+        match self.kind.words(has_some(&told)) {
+            Some(lead) => Ok(Some(led_words(alloc, lead, &told)?)),
+            None => Ok(None),
         }
+    }
+
+    /// What is told of the statement and of the exits behind it, as it is read aloud.
+    fn told_words(&self, alloc: Global) -> Result<Vec<u8>, AllocError>
+        ensures { IfOk result (λ words. words.items ≡ told_words self.now) }
+    {
         let mut words = Vec::new(alloc);
-        words.extend_from_slice(b"executed")?;
         push_lines(&mut words, &self.lines)?;
-        words.extend_from_slice(way_words(self.yes, self.no))?;
-        Ok(Some(words))
+        push_exits(&mut words, self.yes, self.no)?;
+        Ok(words)
+    }
+}
+
+/// Whether there are some bytes.
+fn has_some(bytes: &[u8]) -> bool
+    ensures { result ≡ has_some bytes.now }
+{
+    match bytes {
+        [] => false,
+        _ => true,
+    }
+}
+
+/// Words behind others.
+fn led_words(alloc: Global, lead: &str, told: &[u8]) -> Result<Vec<u8>, AllocError>
+    ensures { IfOk result (λ words. words.items ≡ lead.now ++ told.now) }
+{
+    let mut words = Vec::new(alloc);
+    words.extend_from_slice(lead.as_bytes())?;
+    words.extend_from_slice(told)?;
+    Ok(words)
+}
+
+/// Whether runs take an exit of a test of which this kind of thing is known.
+fn is_way(kind: MarkKind, exit: ExitKind) -> bool {
+    match exit {
+        ExitKind::Taken => true,
+        ExitKind::Open => matches!(kind, MarkKind::Told),
+        ExitKind::Missed | ExitKind::Dead => false,
     }
 }
 
@@ -138,16 +190,35 @@ fn push_line(words: &mut Vec<u8>, line: &[u8]) -> Result<(), AllocError>
     words.extend_from_slice(line)
 }
 
-/// The ways that a run took behind a test, as they are read aloud.
-fn way_words(yes: bool, no: bool) -> &'static [u8]
-    ensures { result.now ≡ way_words yes no }
+/// Appends what is known of the exits of a test, as it is read aloud.
+fn push_exits(words: &mut Vec<u8>, yes: ExitKind, no: ExitKind) -> Result<(), AllocError>
+    ensures { OnOk result (words.new.items ≡ words.old.items ++ exit_words yes no) }
+{
+    push_ways(words, b"taken", yes.is_taken(), no.is_taken())?;
+    push_ways(words, b"missed", yes.is_missed(), no.is_missed())?;
+    push_ways(words, b"never taken", yes.is_dead(), no.is_dead())?;
+    Ok(())
+}
+
+/// Appends which of the ways behind a test are so, as they are read aloud.
+fn push_ways(words: &mut Vec<u8>, what: &[u8], yes: bool, no: bool) -> Result<(), AllocError>
+    ensures { OnOk result (words.new.items ≡ words.old.items ++ way_words what.now yes no) }
 {
     match (yes, no) {
-        (true, true) => b"; ways taken: yes, no",
-        (true, false) => b"; way taken: yes",
-        (false, true) => b"; way taken: no",
-        (false, false) => b"",
+        (true, true) => push_way(words, b"; ways ", what, b": yes, no"),
+        (true, false) => push_way(words, b"; way ", what, b": yes"),
+        (false, true) => push_way(words, b"; way ", what, b": no"),
+        (false, false) => Ok(()),
     }
+}
+
+/// Appends three texts.
+fn push_way(words: &mut Vec<u8>, lead: &[u8], what: &[u8], ways: &[u8]) -> Result<(), AllocError>
+    ensures { OnOk result (words.new.items ≡ words.old.items ++ (lead.now ++ (what.now ++ ways.now))) }
+{
+    words.extend_from_slice(lead)?;
+    words.extend_from_slice(what)?;
+    words.extend_from_slice(ways)
 }
 
 impl MethodMarks {
@@ -166,7 +237,7 @@ impl MethodMarks {
     }
 }
 
-/// The marks of the statements of the method of a number: none where there is no run.
+/// The marks of the statements of the method of a number: none where nothing is known of it.
 pub(crate) fn marks_of(marks: &[MethodMarks], method: usize) -> &[Mark]
     ensures { result.now ≡ marks_at marks.now method }
 {

@@ -37,3 +37,6 @@ pub(crate) const NOTE_TEXT: Px = Px(18);
 
 /// How far below the top of a line of comments its letters stand.
 pub(crate) const NOTE_BASE: Px = Px(11);
+
+/// How far the two sides of the words at a way's line are from one another.
+pub(crate) const WORD_SIDES: Px = Px(12);

@@ -3,11 +3,12 @@ ghost use Rattle.std.specs.Prelude.{◌≡◌, ◌++◌, ◌∷◌, [], Some, No
 ghost use Rattle.chart_layout.specs.Drawn.{drawn, drawn_statement, drawn_call};
 ghost use Rattle.flowchart_methods.specs.Turns.{AddsInTurn};
 ghost use Rattle.flowchart_methods.specs.Conditions.{condition_at};
-ghost use Rattle.flowchart_methods.specs.Marks.{mark_at};
-ghost use Rattle.flowchart_methods.specs.Captions.{condition_text, done_words, placed_caption, statement_caption, statement_captions};
+ghost use Rattle.flowchart_methods.specs.Marks.{mark_at, mark_words};
+ghost use Rattle.flowchart_methods.specs.Captions.{condition_text, placed_caption, statement_caption, statement_captions};
 ghost use Rattle.flowchart_methods.specs.private.Subjects.{beside_subject};
 
 use crate::conditions::Condition;
+use crate::kind::{ExitKind, MarkKind};
 use crate::mark::Mark;
 use crate::measures::{
     CALL_BASE, CALL_LINE, CALL_PLACE_BASE, MARK_SIDE, PLACE_BASE, TEXT_BASE, px,
@@ -20,13 +21,26 @@ use flowchart_markup::{Fill, Page};
 use pap_tree::Name;
 use std::alloc::{AllocError, Global};
 
+/// The start of the group of a statement of which something is known.
+const KNOWN_START: &str = "<g id=\"%:%\" role=\"group\" aria-label=\"%:%%: %; %\" class=\"s\">";
+
+/// That of one that a run executed.
+const RAN_START: &str = "<g id=\"%:%\" role=\"group\" aria-label=\"%:%%: %; %\" class=\"s ran\">";
+
+/// That of one to which no run came.
+const MISSED_START: &str =
+    "<g id=\"%:%\" role=\"group\" aria-label=\"%:%%: %; %\" class=\"s missed\">";
+
+/// That of one to which no run within the ranges comes.
+const DEAD_START: &str = "<g id=\"%:%\" role=\"group\" aria-label=\"%:%%: %; %\" class=\"s dead\">";
+
 /// The method that is drawn.
 #[derive(Clone, Copy)]
 pub(crate) struct Subject<'a> {
     pub name: &'a Name,
     /// Where each statement stands, by its number.
     pub conditions: &'a [Option<Condition>],
-    /// What a run did at it, by its number.
+    /// What is known of it, by its number.
     pub marks: &'a [Mark],
     /// The plan is refused for the method.
     pub is_refused: bool,
@@ -35,22 +49,30 @@ pub(crate) struct Subject<'a> {
 }
 
 impl<'a> Subject<'a> {
-    /// What a run did at the statement of a number.
+    /// What is known of the statement of a number.
     pub(crate) fn mark(self, number: u32) -> Option<&'a Mark> {
         self.marks.get(number as usize)
     }
 
-    /// Whether a run executed the statement of a number.
-    fn is_run(self, number: u32) -> bool {
-        self.mark(number).is_some_and(|mark| mark.first().is_some())
+    /// What kind of thing is known of the statement of a number.
+    fn kind(self, number: u32) -> MarkKind
+        ensures { result ≡ (mark_at self.entry.marks.now number).kind }
+    {
+        match self.marks.get(number as usize) {
+            Some(mark) => mark.kind(),
+            None => MarkKind::Nothing,
+        }
     }
 
-    /// Whether a run took a way of the test of a number.
-    pub(crate) fn takes(self, test: u32, word: Word) -> bool {
+    /// What is known of the exit of the test of a number at which a word stands.
+    pub(crate) fn exit(self, test: u32, word: Word) -> ExitKind {
+        let Some(mark) = self.mark(test) else {
+            return ExitKind::Open;
+        };
         match word {
-            Word::Yes => self.mark(test).is_some_and(|mark| mark.takes(true)),
-            Word::No => self.mark(test).is_some_and(|mark| mark.takes(false)),
-            Word::YesOrNo => self.is_run(test),
+            Word::Yes => mark.exit(true),
+            Word::No => mark.exit(false),
+            Word::YesOrNo => mark.either_exit(),
         }
     }
 }
@@ -89,7 +111,7 @@ pub(crate) fn write_box(
     Ok(())
 }
 
-/// The line round a box. It is marked where a run executed its first statement, and so all of them.
+/// The line round a box. It is marked by what is known of its first statement, and so of all of them.
 fn box_symbol(
     alloc: Global,
     subject: Subject<'_>,
@@ -101,21 +123,33 @@ fn box_symbol(
 ) -> Result<Page, AllocError> {
     let mut page = Page::new(alloc);
     let fills = [px(x), px(y), px(width), px(height)];
-    let is_run = row
-        .first()
-        .is_some_and(|statement| subject.is_run(statement.number));
-    if is_run {
-        page.put(
-            "<rect class=\"b ran\" x=\"%\" y=\"%\" width=\"%\" height=\"%\"/>",
-            &fills,
-        )?;
-    } else {
-        page.put(
+    match first_kind(subject, row) {
+        MarkKind::Nothing | MarkKind::Told => page.put(
             "<rect class=\"b\" x=\"%\" y=\"%\" width=\"%\" height=\"%\"/>",
             &fills,
-        )?;
+        )?,
+        MarkKind::Run(_) => page.put(
+            "<rect class=\"b ran\" x=\"%\" y=\"%\" width=\"%\" height=\"%\"/>",
+            &fills,
+        )?,
+        MarkKind::Missed => page.put(
+            "<rect class=\"b missed\" x=\"%\" y=\"%\" width=\"%\" height=\"%\"/>",
+            &fills,
+        )?,
+        MarkKind::Dead => page.put(
+            "<rect class=\"b dead\" x=\"%\" y=\"%\" width=\"%\" height=\"%\"/>",
+            &fills,
+        )?,
     }
     Ok(page)
+}
+
+/// What kind of thing is known of the first of some statements.
+fn first_kind(subject: Subject<'_>, row: &[Statement]) -> MarkKind {
+    match row.first() {
+        Some(statement) => subject.kind(statement.number),
+        None => MarkKind::Nothing,
+    }
 }
 
 /// Appends statements one below the other.
@@ -150,8 +184,8 @@ pub(crate) fn write_test(
         (statement_captions subject.entry.name.now (beside_subject subject.entry)
         (drawn_statement test.now ∷ [])) page.old page.new) }
 {
-    let is_run = subject.is_run(test.number);
-    page.append(&hexagon(page.alloc(), x, y, test, is_run)?)?;
+    let kind = subject.kind(test.number);
+    page.append(&hexagon(page.alloc(), x, y, test, kind)?)?;
     let width = test.test_width();
     let frame = TextFrame {
         x: x + TEST_SIDE,
@@ -168,7 +202,7 @@ fn hexagon(
     x: Px,
     y: Px,
     test: &Statement,
-    is_run: bool,
+    kind: MarkKind,
 ) -> Result<Page, AllocError> {
     let mut page = Page::new(alloc);
     let half = test.test_height().half();
@@ -191,18 +225,32 @@ fn hexagon(
             "<path class=\"d bad\" d=\"M% %l% -%h%l% %l-% %h-%z\"/>",
             &numbers,
         )?;
-    } else if is_run {
-        page.put(
-            "<path class=\"d ran\" d=\"M% %l% -%h%l% %l-% %h-%z\"/>",
-            &numbers,
-        )?;
     } else {
-        page.put(
-            "<path class=\"d\" d=\"M% %l% -%h%l% %l-% %h-%z\"/>",
-            &numbers,
-        )?;
+        put_hexagon(&mut page, kind, &numbers)?;
     }
     Ok(page)
+}
+
+/// Appends a hexagon of these measures, by what is known of its test.
+fn put_hexagon(page: &mut Page, kind: MarkKind, numbers: &[Fill<'_>]) -> Result<(), AllocError> {
+    match kind {
+        MarkKind::Nothing | MarkKind::Told => page.put(
+            "<path class=\"d\" d=\"M% %l% -%h%l% %l-% %h-%z\"/>",
+            numbers,
+        ),
+        MarkKind::Run(_) => page.put(
+            "<path class=\"d ran\" d=\"M% %l% -%h%l% %l-% %h-%z\"/>",
+            numbers,
+        ),
+        MarkKind::Missed => page.put(
+            "<path class=\"d missed\" d=\"M% %l% -%h%l% %l-% %h-%z\"/>",
+            numbers,
+        ),
+        MarkKind::Dead => page.put(
+            "<path class=\"d dead\" d=\"M% %l% -%h%l% %l-% %h-%z\"/>",
+            numbers,
+        ),
+    }
 }
 
 /// Appends a statement: its caption, its lines, and its place at their right end.
@@ -267,48 +315,56 @@ fn write_caption(
 {
     let condition = condition_at(subject.conditions, number);
     let condition = condition_text(page.alloc(), subject.name, condition)?;
-    match done_at(page.alloc(), subject.marks, number)? {
-        Some(done) => put_done(page, subject.name, number, &condition, text, &done),
+    match words_at(page.alloc(), subject.marks, number)? {
+        Some(words) => {
+            let kind = subject.kind(number);
+            put_known(page, subject.name, number, &condition, text, &words, kind)
+        }
         None => put_caption(page, subject.name, number, is_refused, &condition, text),
     }
 }
 
-/// What a run did at the statement of a number, as it is read aloud. `None` where it didn't execute it.
-fn done_at(alloc: Global, marks: &[Mark], number: u32) -> Result<Option<Vec<u8>>, AllocError>
+/// What is known of the statement of a number, as it is read aloud. `None` where there is nothing to read.
+fn words_at(alloc: Global, marks: &[Mark], number: u32) -> Result<Option<Vec<u8>>, AllocError>
     ensures { IfOk result (λ words. option_map (λ w. w.items) words
-        ≡ done_words (mark_at marks.now number)) }
+        ≡ mark_words (mark_at marks.now number)) }
 {
     match marks.get(number as usize) {
-        Some(mark) => mark.done_words(alloc),
+        Some(mark) => mark.words(alloc),
         None => Ok(None),
     }
 }
 
-/// Appends the start of the group of a statement that a run executed, with what the run did there.
-fn put_done<'a>(
+/// Appends the start of the group of a statement of which something is known.
+fn put_known<'a>(
     page: &mut Page,
     name: &Name,
     number: u32,
     condition: &'a str,
     text: &'a [u8],
-    done: &'a [u8],
+    words: &'a [u8],
+    kind: MarkKind,
 ) -> Result<(), AllocError>
     ensures { OnOk result (page.new ≡ page.old
-        ++ placed_caption name.now condition.now (Some done.now) (drawn number false text.now)) }
+        ++ placed_caption name.now condition.now (Some words.now) kind (drawn number false text.now)) }
 {
     let number = u64::from(number);
-    page.put(
-        "<g id=\"%:%\" role=\"group\" aria-label=\"%:%%: %; %\" class=\"s ran\">",
-        &[
-            Fill::OfName(*name),
-            Fill::Number(number),
-            Fill::OfName(*name),
-            Fill::Number(number),
-            Fill::Text(condition.as_bytes()),
-            Fill::Text(text),
-            Fill::Text(done),
-        ],
-    )
+    let fills = [
+        Fill::OfName(*name),
+        Fill::Number(number),
+        Fill::OfName(*name),
+        Fill::Number(number),
+        Fill::Text(condition.as_bytes()),
+        Fill::Text(text),
+        Fill::Text(words),
+    ];
+    match kind {
+        MarkKind::Nothing => page.put(KNOWN_START, &fills),
+        MarkKind::Run(_) => page.put(RAN_START, &fills),
+        MarkKind::Told => page.put(KNOWN_START, &fills),
+        MarkKind::Missed => page.put(MISSED_START, &fills),
+        MarkKind::Dead => page.put(DEAD_START, &fills),
+    }
 }
 
 /// Appends the start of a statement's group, by its condition as it is read aloud.
@@ -321,7 +377,8 @@ fn put_caption<'a>(
     text: &'a [u8],
 ) -> Result<(), AllocError>
     ensures { OnOk result (page.new ≡ page.old
-        ++ placed_caption name.now condition.now None (drawn number is_refused text.now)) }
+        ++ placed_caption name.now condition.now None MarkKind.Nothing
+        (drawn number is_refused text.now)) }
 {
     let place = u64::from(number);
     if is_refused {
@@ -396,7 +453,7 @@ fn statement_lines(
         frame.top + TEXT_BASE,
     )?;
     let beneath = frame.top + statement.text_height();
-    write_done_lines(&mut page, subject.mark(statement.number), frame.x, beneath)?;
+    write_told_lines(&mut page, subject.mark(statement.number), frame.x, beneath)?;
     let base = frame.top + PLACE_BASE;
     write_place(
         &mut page,
@@ -410,8 +467,8 @@ fn statement_lines(
     Ok(page)
 }
 
-/// Appends what came of a statement, below its text.
-fn write_done_lines(
+/// Appends what is told of a statement, below its text.
+fn write_told_lines(
     page: &mut Page,
     mark: Option<&Mark>,
     x: Px,
@@ -508,7 +565,7 @@ fn write_place(
     x: Px,
     y: Px,
 ) -> Result<(), AllocError> {
-    if let Some(first) = subject.mark(number).and_then(|mark| mark.first()) {
+    if let MarkKind::Run(first) = subject.kind(number) {
         return page.put(
             "<a href=\"#visit-%\"><text class=\"p\" x=\"%\" y=\"%\">%:%</text></a>",
             &[

@@ -2,7 +2,8 @@
 ghost use Rattle.std.specs.Prelude.{[], OnOk};
 ghost use Rattle.flowchart_methods.specs.Turns.{AddsInTurn};
 
-use crate::measures::{BRACKET, NOTE_BASE, NOTE_TEXT, TERMINATOR_BASE, px};
+use crate::kind::ExitKind;
+use crate::measures::{BRACKET, NOTE_BASE, NOTE_TEXT, TERMINATOR_BASE, WORD_SIDES, px};
 use crate::statement::Subject;
 use chart_layout::{Anchor, NOTE_LINE, Note, Px, TERMINATOR_HEIGHT, TERMINATOR_SIDE, Word};
 use flowchart_markup::{Fill, Page};
@@ -104,19 +105,19 @@ pub(crate) fn write_word(
 ) -> Result<(), AllocError>
     ensures { OnOk result (AddsInTurn [] page.old page.new) }
 {
-    let is_taken = subject.takes(test, word);
-    page.append(&word_symbol(page.alloc(), x, y, word, anchor, is_taken)?)?;
+    let exit = subject.exit(test, word);
+    page.append(&word_symbol(page.alloc(), x, y, word, anchor, exit)?)?;
     Ok(())
 }
 
-/// A word of a test's ways.
+/// A word of a test's ways, and what is known of the way.
 fn word_symbol(
     alloc: Global,
     x: Px,
     y: Px,
     word: Word,
     anchor: Anchor,
-    is_taken: bool,
+    exit: ExitKind,
 ) -> Result<Page, AllocError> {
     let mut page = Page::new(alloc);
     let word = match word {
@@ -124,20 +125,63 @@ fn word_symbol(
         Word::No => "no",
         Word::YesOrNo => "yes or no",
     };
-    let fills = [px(x), px(y), Fill::Text(word.as_bytes())];
-    match (anchor, is_taken) {
-        (Anchor::Begins, false) => {
-            page.put("<text class=\"y\" x=\"%\" y=\"%\">%</text>", &fills)?
-        }
-        (Anchor::Begins, true) => {
-            page.put("<text class=\"y ran\" x=\"%\" y=\"%\">%</text>", &fills)?
-        }
-        (Anchor::Ends, false) => { page.put("<text class=\"e\" x=\"%\" y=\"%\">%</text>", &fills)? }
-        (Anchor::Ends, true) => {
-            page.put("<text class=\"e ran\" x=\"%\" y=\"%\">%</text>", &fills)?
-        }
+    match anchor {
+        Anchor::Begins => put_word_behind(&mut page, x, y, word, exit)?,
+        Anchor::Ends => put_word_before(&mut page, x, y, word, exit)?,
     }
     Ok(page)
+}
+
+/// Appends a word that stands behind the line of its way.
+fn put_word_behind(
+    page: &mut Page,
+    x: Px,
+    y: Px,
+    word: &str,
+    exit: ExitKind,
+) -> Result<(), AllocError> {
+    let fills = [px(x), px(y), Fill::Text(word.as_bytes())];
+    match exit {
+        ExitKind::Open => page.put("<text class=\"y\" x=\"%\" y=\"%\">%</text>", &fills),
+        ExitKind::Taken => page.put("<text class=\"y ran\" x=\"%\" y=\"%\">%</text>", &fills),
+        ExitKind::Missed => page.put(
+            "<text class=\"y missed\" x=\"%\" y=\"%\">% missed</text>",
+            &fills,
+        ),
+        ExitKind::Dead => page.put(
+            "<text class=\"y dead\" x=\"%\" y=\"%\">% never</text>",
+            &fills,
+        ),
+    }
+}
+
+/// Appends a word that stands before the line of its way; what is known of the way stands behind the line.
+fn put_word_before(
+    page: &mut Page,
+    x: Px,
+    y: Px,
+    word: &str,
+    exit: ExitKind,
+) -> Result<(), AllocError> {
+    let fills = [
+        px(x),
+        px(y),
+        Fill::Text(word.as_bytes()),
+        px(x + WORD_SIDES),
+        px(y),
+    ];
+    match exit {
+        ExitKind::Open => page.put("<text class=\"e\" x=\"%\" y=\"%\">%</text>", &fills),
+        ExitKind::Taken => page.put("<text class=\"e ran\" x=\"%\" y=\"%\">%</text>", &fills),
+        ExitKind::Missed => page.put(
+            "<text class=\"e missed\" x=\"%\" y=\"%\">%</text><text class=\"y missed\" x=\"%\" y=\"%\">missed</text>",
+            &fills,
+        ),
+        ExitKind::Dead => page.put(
+            "<text class=\"e dead\" x=\"%\" y=\"%\">%</text><text class=\"y dead\" x=\"%\" y=\"%\">never</text>",
+            &fills,
+        ),
+    }
 }
 
 /// Appends comments beside the spine.

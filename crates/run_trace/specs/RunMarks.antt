@@ -11,6 +11,9 @@ use Rattle.month_trace.specs.declared.step.TraceStep.TheVariants.{Set, Test, Ent
 use Rattle.statement_list.specs.declared.statement.Form.{Form}
 use Rattle.statement_list.specs.declared.statement.Form.TheVariants as form
 use Rattle.statement_list.specs.Statements.{Listed, listed_methods}
+use Rattle.flowchart_methods.specs.declared.kind.MarkKind.TheVariants.{Run}
+use Rattle.flowchart_methods.specs.declared.kind.ExitKind.{ExitKind}
+use Rattle.flowchart_methods.specs.declared.kind.ExitKind.TheVariants.{Open, Taken}
 use Rattle.flowchart_methods.specs.Marks.{Marked, unmarked}
 use Rattle.run_trace.specs.VariableValues.{begin_values}
 use Rattle.run_trace.specs.StepLines.{Brackets, brackets, StepPlace, step_place, method_number, listed_at, more_operands, values_behind}
@@ -108,15 +111,19 @@ mark_lines (form.Enter m) texts = []
 abbrev pub entry_shown : ℕ → ℕ → ℕ
 entry_shown total k = if is_listed total k then k else entries_at_an_end
 
+-- of an exit of a test, whether the run took it
+abbrev pub exit_kind : Bool → ExitKind
+exit_kind true = Taken
+exit_kind false = Open
+
 -- the mark of a statement of this form with these executions, in a run of so many
 abbrev pub mark_of : Flowchart → ℕ → Form → List RunStep → Marked
 mark_of f total what [] = unmarked
 mark_of f total what (e ∷ es) = record {
-  is_run = true;
-  first = entry_shown total e.number;
+  kind = Run (entry_shown total e.number);
   lines = mark_lines what (told_marks f (e ∷ es));
-  yes = list_any (λ (x : RunStep). has_answer true x.step) (e ∷ es);
-  no = list_any (λ (x : RunStep). has_answer false x.step) (e ∷ es);
+  yes = exit_kind (list_any (λ (x : RunStep). has_answer true x.step) (e ∷ es));
+  no = exit_kind (list_any (λ (x : RunStep). has_answer false x.step) (e ∷ es));
 }
 
 -- for each item of a list, the first of which has a number, what a function has for its number and for it

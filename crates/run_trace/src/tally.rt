@@ -3,13 +3,13 @@ ghost use Rattle.std.specs.Prelude.{◌≡◌, ◌∷◌, [], ◌++◌, codes, I
 ghost use Rattle.scaled_decimal.specs.PlainTexts.{plain_text};
 ghost use Rattle.pap_tree.specs.Flowchart.{flowchart_of};
 ghost use Rattle.run_trace.specs.StepLines.{step_place};
-ghost use Rattle.run_trace.specs.RunMarks.{execution, has_answer, step_mark, test_mark, more_words, entry_shown, led_by, mark_lines};
+ghost use Rattle.run_trace.specs.RunMarks.{execution, has_answer, step_mark, test_mark, more_words, entry_shown, exit_kind, led_by, mark_lines};
 ghost use Rattle.run_trace.specs.private.MarkViews.{no_executions, first_number, told_with, with_execution, mark_in};
 ghost use Rattle.run_trace.specs.private.TellingViews.{KnowsStatements};
 
 use crate::entries::{ENTRIES_AT_AN_END, answer_arrow, is_listed};
 use crate::telling::Telling;
-use flowchart_methods::Mark;
+use flowchart_methods::{ExitKind, Mark, MarkKind};
 use month_trace::TraceStep;
 use pap_tree::Name;
 use scaled_decimal::Dec;
@@ -93,7 +93,8 @@ impl Tally {
         let first = entry_shown(total, self.first);
         let texts = self.texts(alloc)?;
         let lines = mark_lines(alloc, &self.form, texts)?;
-        Ok(Mark::new(first as u64, lines, self.yes, self.no))
+        let kind = MarkKind::Run(first as u64);
+        Ok(Mark::new(kind, lines, exit_kind(self.yes), exit_kind(self.no)))
     }
 
     /// What came of the first executions, and how many more there are.
@@ -143,6 +144,17 @@ fn entry_shown(total: usize, number: usize) -> usize
         number
     } else {
         ENTRIES_AT_AN_END
+    }
+}
+
+/// What is known of an exit of a test, by whether the run took it.
+fn exit_kind(is_taken: bool) -> ExitKind
+    ensures { result ≡ exit_kind is_taken }
+{
+    if is_taken {
+        ExitKind::Taken
+    } else {
+        ExitKind::Open
     }
 }
 

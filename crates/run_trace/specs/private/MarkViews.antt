@@ -4,10 +4,11 @@ use Rattle.std.specs.Option.{option_map_or}
 use Rattle.pap_tree.specs.Flowchart.{Flowchart}
 use Rattle.statement_list.specs.declared.statement.Form.{Form}
 use Rattle.statement_list.specs.Statements.{Listed}
+use Rattle.flowchart_methods.specs.declared.kind.MarkKind.TheVariants.{Run}
 use Rattle.flowchart_methods.specs.Marks.{Marked, unmarked}
 use Rattle.run_trace.specs.StepLines.{method_number}
 use Rattle.run_trace.specs.RunPages.{place_of}
-use Rattle.run_trace.specs.RunMarks.{RunStep, has_answer, execution_mark, told_one_by_one, more_words, mark_lines, entry_shown}
+use Rattle.run_trace.specs.RunMarks.{RunStep, has_answer, execution_mark, told_one_by_one, more_words, mark_lines, exit_kind, entry_shown}
 use Rattle.run_trace.specs.private.MarkTallies.{MarkTally}
 
 -- no execution of a statement that does this
@@ -54,9 +55,8 @@ abbrev pub mark_in : ℕ → MarkTally → Marked
 mark_in total t =
     if t.count == 0 then unmarked
     else record {
-      is_run = true;
-      first = entry_shown total t.first;
+      kind = Run (entry_shown total t.first);
       lines = mark_lines t.what (t.told ++ more_words t.count);
-      yes = t.yes;
-      no = t.no;
+      yes = exit_kind t.yes;
+      no = exit_kind t.no;
     }
