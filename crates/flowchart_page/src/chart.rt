@@ -10,14 +10,14 @@ ghost use Rattle.flowchart_methods.specs.declared.site.Site.TheVariants.{Nowhere
 ghost use Rattle.flowchart_page.specs.Findings.{IsFound};
 ghost use Rattle.flowchart_page.specs.Judged.{finding_of, words_of, HasLine};
 ghost use Rattle.flowchart_page.specs.Pages.{IsWholePage, AreLimits, IsPage, IsRunPage};
-ghost use Rattle.flowchart_page.specs.Runs.{run_parts, run_texts, run_marks};
+ghost use Rattle.flowchart_page.specs.Runs.{all_runs, run_parts, run_texts, run_marks};
 ghost use Rattle.flowchart_page.specs.private.PageViews.{IsAround, ShowsTree, ShowsRead, HasTable, IsBehind, ShowsVerdict};
 ghost use Rattle.flowchart_page.specs.private.SourceViews.{table_source};
 ghost use Rattle.flowchart_page.specs.private.VerdictViews.{verdict_text};
 
 use crate::declarations::{Declarations, write_declarations};
 use crate::header::{Head, push_head, push_own, push_page, push_verdict};
-use crate::index::{write_index, write_key};
+use crate::index::{Marking, write_index, write_key};
 use crate::site::site_shown;
 use crate::verdict::{Reason, Verdict, judge};
 use flowchart_markup::{Fill, Page};
@@ -40,17 +40,17 @@ pub struct Chart {
     pub reason: Option<String>,
 }
 
-/// What a page shows of a run.
+/// What a page shows of a run, or of all runs.
 #[derive(Clone, Copy)]
 pub struct RunShown<'a> {
-    /// The part of the page that tells of the run: it stands above the index of the methods.
+    /// The part of the page that tells of the run: it stands above the index of the methods. It is empty where there is no one run.
     pub part: &'a Page,
-    /// What the run did at the statements of each method, MAIN first; nothing where they aren't marked.
+    /// What is known of the statements of each method, MAIN first; nothing where they aren't marked.
     pub marks: &'a [MethodMarks],
 }
 
 impl<'a> RunShown<'a> {
-    /// What a run did at the statements of each method: nothing where there is no run.
+    /// What is known of the statements of each method: nothing where there is no run.
     fn marks(run: Option<RunShown<'a>>) -> &'a [MethodMarks]
         ensures { result.now ≡ run_marks (option_map run_parts run.entry) }
     {
@@ -105,6 +105,35 @@ pub fn draw_judged(
         (words_of verdict.now) page.items) }
 {
     write_chart(alloc, plan, limits, verdict, run)
+}
+
+/// The page of a plan's bytes and a range file's, with what is known of all runs in the drawings. Takes time as `draw_chart`.
+#[tactic(auto, using(crate::proofs::PageLemmas::reworded))]
+pub fn draw_ranged(
+    alloc: Global,
+    plan: TextFile<'_>,
+    limits: TextFile<'_>,
+    marks: &[MethodMarks],
+) -> Result<Chart, AllocError>
+    // Why the plan is refused, where it is.
+    ensures judged { IfOk result (λ chart. IsJudged (named_text plan.entry)
+        (Some (named_text limits.entry)) (option_map (λ words. string_bytes words) chart.reason)) }
+    // What the page says of the plan, and that its drawings have these marks.
+    ensures page { IfOk result (λ chart. IsRunPage (Some (all_runs marks.now))
+        plan.entry.bytes.now (Some limits.entry.bytes.now)
+        (option_map (λ words. string_bytes words) chart.reason) chart.page.items) }
+{
+    let verdict = judge(alloc, plan, Some(limits))?;
+    let part = Page::new(alloc);
+    let shown = RunShown {
+        part: &part,
+        marks,
+    };
+    let page = draw_judged(alloc, plan, Some(limits), &verdict, Some(shown))?;
+    Ok(Chart {
+        page,
+        reason: words_of(verdict),
+    })
 }
 
 /// The words of a verdict's reason.
@@ -283,8 +312,8 @@ fn behind_verdict(
 {
     let mut page = counts_of(alloc, chapters)?;
     append_run(&mut page, source.run)?;
-    let is_traced = source.run.is_some_and(|run| !run.marks.is_empty());
-    page.append(&index_of(alloc, chapters, site, is_traced)?)?;
+    let marking = marking_of(source.run);
+    page.append(&index_of(alloc, chapters, site, marking)?)?;
     let declarations = Declarations {
         elements,
         notes: source.notes,
@@ -293,7 +322,7 @@ fn behind_verdict(
         site,
     };
     write_declarations(&mut page, declarations)?;
-    page.append(&before_methods(alloc, source.notes)?)?;
+    page.append(&before_methods(alloc, source.notes, marking)?)?;
     write_methods(&mut page, elements, chapters, site)?;
     page.append(&behind_methods(alloc, source.notes)?)?;
     Ok(page)
@@ -335,23 +364,39 @@ fn counts_of(alloc: Global, chapters: &[Chapter<'_>]) -> Result<Page, AllocError
     Ok(page)
 }
 
+/// What the marks in the drawings tell: of a run, where a part of the page tells of one.
+fn marking_of(run: Option<RunShown<'_>>) -> Marking {
+    match run {
+        Some(run) => {
+            if run.marks.is_empty() {
+                Marking::Nothing
+            } else if run.part.is_empty() {
+                Marking::Ranges
+            } else {
+                Marking::Run
+            }
+        }
+        None => Marking::Nothing,
+    }
+}
+
 /// The index of the methods, which stands before the declarations. Where the way of a run is marked in the drawings, the rest of them is
 /// pale.
 fn index_of(
     alloc: Global,
     chapters: &[Chapter<'_>],
     site: &Site,
-    is_traced: bool,
+    marking: Marking,
 ) -> Result<Page, AllocError> {
     let mut page = Page::new(alloc);
-    write_index(&mut page, chapters, site, is_traced)?;
+    write_index(&mut page, chapters, site, marking)?;
     Ok(page)
 }
 
 /// What stands between the declarations and the methods: the key of the drawings, and comments.
-fn before_methods(alloc: Global, notes: &Notes) -> Result<Page, AllocError> {
+fn before_methods(alloc: Global, notes: &Notes, marking: Marking) -> Result<Page, AllocError> {
     let mut page = Page::new(alloc);
-    write_key(&mut page)?;
+    write_key(&mut page, marking)?;
     write_paragraphs(&mut page, notes, Element::Methods, false)?;
     Ok(page)
 }

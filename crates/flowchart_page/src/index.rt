@@ -7,12 +7,27 @@ use std::alloc::AllocError;
 const KEY: &str =
     "<section id=\"methods\"><h2>Drawings</h2>\n<div class=\"key\"><svg aria-hidden=\"true\" width=\"566\" height=\"26\" viewBox=\"0 0 566 26\"><path class=\"d\" d=\"M2 13l10-10h34l10 10l-10 10h-34z\"/><text class=\"c\" x=\"63\" y=\"17\">test</text><rect class=\"b\" x=\"104\" y=\"3\" width=\"44\" height=\"20\"/><text class=\"c\" x=\"155\" y=\"17\">assignments</text><rect class=\"x\" x=\"242\" y=\"3\" width=\"44\" height=\"20\"/><path class=\"xx\" d=\"M247 3v20M281 3v20\"/><text class=\"c\" x=\"293\" y=\"17\">another method</text><path class=\"k\" d=\"M402 13h10M418 3h-6v20h6\"/><text class=\"c\" x=\"424\" y=\"17\">comment of the file</text></svg><p>After a test, <i>yes</i> goes one step to the right and <i>no</i> straight down, unless the words beside the lines say otherwise. The grey words are the places of the statements, as refusals name them.</p></div>\n";
 
-/// Appends the index of the methods. `is_traced` says that the way of a run is marked in the drawings.
+/// What the marks in the drawings tell.
+#[derive(Clone, Copy)]
+pub(crate) enum Marking {
+    /// Nothing: there are none.
+    Nothing,
+    /// The way of a run.
+    Run,
+    /// What is known of all runs within the ranges.
+    Ranges,
+}
+
+/// What the marks of a page with ranges tell, below the key.
+const RANGES_KEY: &str =
+    "<p class=\"key\">Under each assignment stands the range of what it puts: from the least to the greatest value that a run within the ranges of the inputs can give it. What no such run comes to is grey and dashed, and says so.</p>\n";
+
+/// Appends the index of the methods, and the start of what stands beside it, by what the drawings tell.
 pub(crate) fn write_index(
     page: &mut Page,
     chapters: &[Chapter<'_>],
     site: &Site,
-    is_traced: bool,
+    marking: Marking,
 ) -> Result<(), AllocError> {
     page.put(
         "<div class=\"cols\"><nav aria-labelledby=\"index\"><h2 id=\"index\">Methods</h2><ul>\n",
@@ -21,16 +36,19 @@ pub(crate) fn write_index(
     for chapter in chapters {
         write_entry(page, chapter, site)?;
     }
-    if is_traced {
-        page.put(
-            "</ul><p><a href=\"#declarations\">Declarations</a></p></nav><main class=\"traced\">\n",
-            &[],
-        )
-    } else {
-        page.put(
+    match marking {
+        Marking::Nothing => page.put(
             "</ul><p><a href=\"#declarations\">Declarations</a></p></nav><main>\n",
             &[],
-        )
+        ),
+        Marking::Run => page.put(
+            "</ul><p><a href=\"#declarations\">Declarations</a></p></nav><main class=\"traced\">\n",
+            &[],
+        ),
+        Marking::Ranges => page.put(
+            "</ul><p><a href=\"#declarations\">Declarations</a></p></nav><main class=\"ranged\">\n",
+            &[],
+        ),
     }
 }
 
@@ -56,6 +74,10 @@ fn write_entry(page: &mut Page, chapter: &Chapter<'_>, site: &Site) -> Result<()
 }
 
 /// Appends the key of the drawings, which begins their section.
-pub(crate) fn write_key(page: &mut Page) -> Result<(), AllocError> {
-    page.put(KEY, &[])
+pub(crate) fn write_key(page: &mut Page, marking: Marking) -> Result<(), AllocError> {
+    page.put(KEY, &[])?;
+    match marking {
+        Marking::Ranges => page.put(RANGES_KEY, &[]),
+        Marking::Nothing | Marking::Run => Ok(()),
+    }
 }

@@ -10,5 +10,5 @@ mod site;
 mod style;
 mod verdict;
 
-pub use chart::{Chart, RunShown, draw_chart, draw_judged};
+pub use chart::{Chart, RunShown, draw_chart, draw_judged, draw_ranged};
 pub use verdict::{Reason, Verdict, judge};
