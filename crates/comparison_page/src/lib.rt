@@ -1,9 +1,16 @@
-//! The comparison of two flowcharts as it is written: a text for a terminal or a log.
+//! The comparison of two flowcharts as it is written: a text for a terminal or a log, and a page of HTML.
 #![tactic(auto)]
 
+mod cells;
+mod contents;
+mod counts;
 mod lines;
+mod page;
+mod parts;
 mod ranges;
+mod rows;
 mod text;
 
+pub use page::{FileNames, comparison_page, ranges_differ};
 pub use ranges::write_range_changes;
 pub use text::comparison_text;

@@ -73,7 +73,7 @@ fn write_entry(
 }
 
 /// What an entry says of its input.
-fn range_entry_words(alloc: Global, entry: &RangeEntry) -> Result<String, AllocError>
+pub(crate) fn range_entry_words(alloc: Global, entry: &RangeEntry) -> Result<String, AllocError>
     ensures { IfOk result (λ text. string_bytes text ≡ range_entry_words entry.now) }
 {
     match entry {

@@ -79,7 +79,7 @@ fn write_declaration(
 }
 
 /// The declaration at a place, where there is one.
-fn item_at(items: &[Item], place: usize) -> Option<&Item>
+pub(crate) fn item_at(items: &[Item], place: usize) -> Option<&Item>
     ensures { option_map (λ x. x.now) result ≡ slice_get items.now place }
 {
     items.get(place)
@@ -125,7 +125,7 @@ fn write_methods(
 }
 
 /// The method at a place, where there is one.
-fn method_at(methods: &[MethodOutline], place: Option<usize>) -> Option<&MethodOutline>
+pub(crate) fn method_at(methods: &[MethodOutline], place: Option<usize>) -> Option<&MethodOutline>
     ensures { option_map (λ m. m.now) result ≡ option_and_then (slice_get methods.now) place }
 {
     methods.get(place?)
@@ -184,7 +184,7 @@ fn write_method(
 }
 
 /// The name of a method, with its old name where that was another.
-fn renamed(alloc: Global, old: Name, new: Name) -> Result<String, AllocError>
+pub(crate) fn renamed(alloc: Global, old: Name, new: Name) -> Result<String, AllocError>
     ensures { IfOk result (λ text. string_bytes text ≡ renamed old new) }
 {
     if old.bytes() == new.bytes() {
@@ -228,7 +228,7 @@ fn write_entry(
 }
 
 /// The line at a place, where there is one.
-fn line_at(lines: &[Line], place: usize) -> Option<&Line>
+pub(crate) fn line_at(lines: &[Line], place: usize) -> Option<&Line>
     ensures { option_map (λ l. l.now) result ≡ slice_get lines.now place }
 {
     lines.get(place)
@@ -277,7 +277,11 @@ fn write_line(
 }
 
 /// The place of a statement and a space, and nothing for a line that begins no statement.
-fn place_lead(alloc: Global, method: Name, number: Option<usize>) -> Result<String, AllocError>
+pub(crate) fn place_lead(
+    alloc: Global,
+    method: Name,
+    number: Option<usize>,
+) -> Result<String, AllocError>
     ensures { IfOk result (λ text. string_bytes text ≡ place_lead method number) }
 {
     match number {

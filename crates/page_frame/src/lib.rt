@@ -1,0 +1,9 @@
+//! What the page of a comparison begins with: its head, and the style sheet, which has the colours and symbols of the drawn pages and the
+//! rows of changes.
+#![tactic(auto)]
+
+mod start;
+mod style;
+
+pub use start::page_start;
+pub use style::style_sheet;
