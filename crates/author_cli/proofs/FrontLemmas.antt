@@ -22,7 +22,7 @@ use Rattle.flowchart_methods.specs.declared.site.Site.{Site}
 use Rattle.flowchart_page.specs.Findings.{Finding, accepted, in_order, refused, IsFound}
 use Rattle.flowchart_page.specs.Runs.{RunParts}
 use Rattle.flowchart_page.specs.Pages.{AreLimits, IsPlanTable, AreTreeTexts, ArePlanTexts, Says, Shows, IsRunPage, IsPage}
-use Rattle.author_cli.specs.Words.{chart, chart_within, ranges, compared, traced, drawn, example, linted}
+use Rattle.author_cli.specs.Words.{Medium, two_plans, chart, chart_within, ranges, compared, traced, drawn, example, linted}
 use Rattle.author_cli.specs.Compared.{IsUnreadable, IsCompared}
 use Rattle.author_cli.specs.Drawn.{IsDrawnRun, IsDrawnBlocked, IsDrawnRefused, IsDrawn}
 use Rattle.author_cli.specs.Examples.{TellsSearch, IsUnsearched, IsExample}
@@ -35,7 +35,7 @@ use Rattle.plan_text.specs.Plans.{IsPlan}
 use Rattle.pap_plan.specs.AcceptanceClauses.{IsUnreadPlan}
 use Rattle.plan_answers.specs.Refusals.{HasDetail}
 use Rattle.plan_answers.specs.Answers.{Answer as Written, refusal}
-use Rattle.author_cli.specs.Answers.{Answer, IsChart, IsRanges, file_of, Answers}
+use Rattle.author_cli.specs.Answers.{Answer, IsChart, ChartsAccepted, ChartsRefused, IsChartWithin, IsRanges, file_of, Answers}
 use Rattle.author_cli.proofs.TellsLemmas.{front, begins_ranges, begins_plan}
 
 module _ (n m : ℕ) (more_plan : 1048576 < n) (more_limits : 262144 < m) where
@@ -273,20 +273,17 @@ module _ (n m : ℕ) (more_plan : 1048576 < n) (more_limits : 262144 < m) where
     tells = tells_alone plan h.words h.tells;
   }
 
-  compared_front : (old new : NamedText) (text : List ℕ) (reason : Option (List ℕ))
-      → IsCompared (front n old) (front n new) text reason → IsCompared old new text reason
-  compared_front old new text reason (inl h) = inl (record {
+  compared_front : (medium : Medium) (old new : NamedText) (text : List ℕ) (reason : Option (List ℕ))
+      → IsCompared medium (front n old) (front n new) text reason → IsCompared medium old new text reason
+  compared_front medium old new text reason (inl h) = inl (record {
     old_plan = h.old_plan;
     new_plan = h.new_plan;
     old_read = plan_front old.bytes h.old_plan h.old_read;
     new_read = plan_front new.bytes h.new_plan h.new_read;
-    comparison = h.comparison;
-    is = h.is;
-    written = h.written;
-    said = h.said;
+    tells = h.tells;
   })
-  compared_front old new text reason (inr (inl h)) = inr (inl (unreadable_front old text reason h))
-  compared_front old new text reason (inr (inr h)) = inr (inr (unreadable_front new text reason h))
+  compared_front medium old new text reason (inr (inl h)) = inr (inl (unreadable_front old text reason h))
+  compared_front medium old new text reason (inr (inr h)) = inr (inr (unreadable_front new text reason h))
 
   -- ---- a run
 
@@ -319,6 +316,23 @@ module _ (n m : ℕ) (more_plan : 1048576 < n) (more_limits : 262144 < m) where
         tells = tells_front plan limits h.words h.tells;
       }
 
+  -- ---- the page with ranges
+
+  charted_front : (plan limits : NamedText) (a : Answer) → ChartsAccepted (front n plan) (front m limits) a
+      → ChartsAccepted plan limits a
+  charted_front plan limits a h =
+      let w = accepted_whole n m more_plan more_limits plan.bytes limits.bytes h.meaning h.accepted in
+      subst (λ l. ChartsAccepted plan (record { name = limits.name; bytes = l }) a) w.1
+      (subst (λ p. ChartsAccepted (record { name = plan.name; bytes = p }) (front m limits) a) w.0 h)
+
+  within_front : (plan limits : NamedText) (a : Answer) → IsChartWithin (front n plan) (front m limits) a
+      → IsChartWithin plan limits a
+  within_front plan limits a (inl h) = inl (charted_front plan limits a h)
+  within_front plan limits a (inr h) = inr (h.0, record {
+    refused = refused_front plan.bytes limits.bytes h.0 h.1.refused;
+    is_chart = chart_front plan limits a h.1.is_chart;
+  })
+
   traced_front : (values : List NamedValue) (plan limits : NamedText) (text : List ℕ) (reason : Option (List ℕ))
       → IsTraced values (front n plan) (front m limits) text reason → IsTraced values plan limits text reason
   traced_front values plan limits text reason (inl h) = inl (told_front values plan.bytes limits.bytes text reason h)
@@ -328,7 +342,7 @@ module _ (n m : ℕ) (more_plan : 1048576 < n) (more_limits : 262144 < m) where
 
   -- ---- a search
 
-  bound_front : (plan limits : List ℕ) (f : Flowchart) (l : Limits) → HasBindings (take n plan) (take m limits) f l
+  pub bound_front : (plan limits : List ℕ) (f : Flowchart) (l : Limits) → HasBindings (take n plan) (take m limits) f l
       → HasBindings plan limits f l
   bound_front plan limits f l h =
       subst (λ b. HasBindings plan b f l) (whole 262144 m limits more_limits h.suited.named.file.file.1.short)
@@ -422,18 +436,19 @@ two_fronts files old new bytes bytes' same read told same' read' told' =
       new_read = q.2;
     }
 
-pub compared_of : (files : FileMap) (old new bytes bytes' : List ℕ) (a : Answer)
+pub compared_of : (files : FileMap) (medium : Medium) (old new bytes bytes' : List ℕ) (a : Answer)
     → AreTwoFronts files old new bytes bytes'
-    → IsCompared (file_of old bytes) (file_of new bytes') a.text a.reason → Answers (compared old new) files a
-compared_of files old new bytes bytes' a read h = record {
+    → IsCompared medium (file_of old bytes) (file_of new bytes') a.text a.reason
+    → Answers (compared medium (two_plans old new)) files a
+compared_of files medium old new bytes bytes' a read h = record {
   old_bytes = read.old_bytes;
   new_bytes = read.new_bytes;
   old_there = read.old_there;
   new_there = read.new_there;
-  is = compared_front 1048577 262145 (omega arith) (omega arith)
+  is = compared_front 1048577 262145 (omega arith) (omega arith) medium
       (file_of old read.old_bytes) (file_of new read.new_bytes) a.text a.reason
-      (subst (λ b. IsCompared (file_of old b) (file_of new (take 1048577 read.new_bytes)) a.text a.reason)
-      read.old_read (subst (λ b. IsCompared (file_of old bytes) (file_of new b) a.text a.reason) read.new_read h));
+      (subst (λ b. IsCompared medium (file_of old b) (file_of new (take 1048577 read.new_bytes)) a.text a.reason)
+      read.old_read (subst (λ b. IsCompared medium (file_of old bytes) (file_of new b) a.text a.reason) read.new_read h));
 }
 
 pub chart_of : (files : FileMap) (plan bytes : List ℕ) (a : Answer) → IsFileFront files plan 1048577 bytes
@@ -460,17 +475,17 @@ ranges_of files plan bytes a read h =
 
 pub chart_within_of : (files : FileMap) (plan limits bytes bytes' : List ℕ) (a : Answer)
     → AreFronts files plan limits bytes bytes'
-    → IsChart (file_of plan bytes) (Some (file_of limits bytes')) a → Answers (chart_within plan limits) files a
+    → IsChartWithin (file_of plan bytes) (file_of limits bytes') a → Answers (chart_within plan limits) files a
 chart_within_of files plan limits bytes bytes' a read h =
     record {
       plan_bytes = read.plan_bytes;
       limits_bytes = read.limits_bytes;
       plan_there = read.plan_there;
       limits_there = read.limits_there;
-      is = chart_front 1048577 262145 (omega arith) (omega arith)
+      is = within_front 1048577 262145 (omega arith) (omega arith)
           (file_of plan read.plan_bytes) (file_of limits read.limits_bytes) a
-          (subst (λ b. IsChart (file_of plan b) (Some (file_of limits (take 262145 read.limits_bytes))) a)
-          read.plan_read (subst (λ b. IsChart (file_of plan bytes) (Some (file_of limits b)) a) read.limits_read h));
+          (subst (λ b. IsChartWithin (file_of plan b) (file_of limits (take 262145 read.limits_bytes)) a)
+          read.plan_read (subst (λ b. IsChartWithin (file_of plan bytes) (file_of limits b) a) read.limits_read h));
     }
 
 pub traced_of : (files : FileMap) (values : List NamedValue) (plan limits bytes bytes' : List ℕ) (a : Answer)

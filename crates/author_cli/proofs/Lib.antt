@@ -1,5 +1,6 @@
 mod WordLemmas
 mod UnreadLemmas
+mod ChartLemmas
 mod ComparedLemmas
 mod TellsLemmas
 mod FrontLemmas
@@ -13,3 +14,4 @@ mod LintLemmas
 mod CoverWordLemmas
 mod CoverFrontLemmas
 mod CoveredLemmas
+mod CompareFrontLemmas

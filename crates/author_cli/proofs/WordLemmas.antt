@@ -9,7 +9,7 @@ use Rattle.std.proofs.Math.Seq.{drop-cons}
 use Rattle.payroll_records.specs.ValueWords.{AreValueWords}
 use Rattle.payroll_records.specs.declared.values.NamedValue.{NamedValue}
 use Rattle.payroll_records.proofs.Laws.{values_once}
-use Rattle.author_cli.specs.Words.{texts, Form, chart, chart_within, ranges, compared, traced, drawn, example, linted, covered, least_words, HasForm, IsBad}
+use Rattle.author_cli.specs.Words.{texts, Medium, as_text, as_page, NamedPlans, two_plans, with_limits, plan_names, behind_compare, Form, chart, chart_within, ranges, compared, traced, drawn, example, linted, covered, least_words, HasForm, IsBad}
 use Rattle.author_cli.specs.private.WordViews.{text_words}
 
 two_three : (a b c d e : List ℕ) → a ∷ b ∷ [] ≡ c ∷ d ∷ e ∷ [] → ⊥
@@ -69,14 +69,6 @@ second words a b c d x y h k = ap (λ w. get_or w 1 []) (sym h ∙ k)
 third : (words : List (List ℕ)) (a b c d e f : List ℕ) → words ≡ a ∷ b ∷ c ∷ [] → words ≡ d ∷ e ∷ f ∷ [] → c ≡ f
 third words a b c d e f h k = ap (λ w. get_or w 2 []) (sym h ∙ k)
 
-third_of_four : (words : List (List ℕ)) (a b c d e f g h : List ℕ) → words ≡ a ∷ b ∷ c ∷ d ∷ []
-    → words ≡ e ∷ f ∷ g ∷ h ∷ [] → c ≡ g
-third_of_four words a b c d e f g h p q = ap (λ w. get_or w 2 []) (sym p ∙ q)
-
-fourth : (words : List (List ℕ)) (a b c d e f g h : List ℕ) → words ≡ a ∷ b ∷ c ∷ d ∷ []
-    → words ≡ e ∷ f ∷ g ∷ h ∷ [] → d ≡ h
-fourth words a b c d e f g h p q = ap (λ w. get_or w 3 []) (sym p ∙ q)
-
 -- the words for a share say which it is
 one_least : (a b : Option ℕ) → ForSome a (λ n. n ≤ 100) → ForSome b (λ n. n ≤ 100) → least_words a ≡ least_words b → a ≡ b
 one_least None None p q e = refl
@@ -86,6 +78,90 @@ one_least (Some m) (Some n) p q e =
     let few : m ≤ 100 = p m refl in
     let few' : n ≤ 100 = q n refl in
     ap (λ k. Some k) (decimal_injective m n (omega arith) (omega arith) (ap (λ w. get_or w 1 []) e))
+
+-- ---- the words for a comparison
+
+chart_text : codes "chart" ≡ codes "text" → ⊥
+chart_text e = cc
+
+chart_compare : codes "chart" ≡ codes "compare" → ⊥
+chart_compare e = cc
+
+ranges_text : codes "ranges" ≡ codes "text" → ⊥
+ranges_text e = cc
+
+ranges_compare : codes "ranges" ≡ codes "compare" → ⊥
+ranges_compare e = cc
+
+example_text : codes "example" ≡ codes "text" → ⊥
+example_text e = cc
+
+example_compare : codes "example" ≡ codes "compare" → ⊥
+example_compare e = let c : 101 ≡ 99 = ap (λ w. get_or w 0 0) e in omega (arith, c)
+
+lint_text : codes "lint" ≡ codes "text" → ⊥
+lint_text e = let c : 108 ≡ 116 = ap (λ w. get_or w 0 0) e in omega (arith, c)
+
+lint_compare : codes "lint" ≡ codes "compare" → ⊥
+lint_compare e = cc
+
+trace_text : codes "trace" ≡ codes "text" → ⊥
+trace_text e = text_trace (sym e)
+
+trace_compare : codes "trace" ≡ codes "compare" → ⊥
+trace_compare e = compare_trace (sym e)
+
+cover_compare : codes "cover" ≡ codes "compare" → ⊥
+cover_compare e = compare_cover (sym e)
+
+text_compare : codes "text" ≡ codes "compare" → ⊥
+text_compare e = cc
+
+-- words for a comparison begin with `text` or `compare`
+no_compare_first : (words rest names : List (List ℕ)) (a : List ℕ) (m : Medium) → words ≡ a ∷ rest → words ≡ behind_compare m names
+    → (a ≡ codes "text" → ⊥) → (a ≡ codes "compare" → ⊥) → ⊥
+no_compare_first words rest names a as_text h k no_text no_page = no_text (first words a _ rest (codes "compare" ∷ names) h k)
+no_compare_first words rest names a as_page h k no_text no_page = no_page (first words a _ rest names h k)
+
+-- words for a comparison that begin with `text` go on with `compare`
+no_compare_second : (words rest names : List (List ℕ)) (a : List ℕ) (m : Medium) → words ≡ codes "text" ∷ a ∷ rest
+    → words ≡ behind_compare m names → (a ≡ codes "compare" → ⊥) → ⊥
+no_compare_second words rest names a as_text h k no_text = no_text (second words _ a _ _ rest names h k)
+no_compare_second words rest names a as_page h k no_text = text_compare (first words _ _ (a ∷ rest) names h k)
+
+two_four : (a b c d e f : List ℕ) → a ∷ b ∷ [] ≡ c ∷ d ∷ e ∷ f ∷ [] → ⊥
+two_four a b c d e f h = two_more a b c d e f [] h
+
+same_plans : (c d : NamedPlans) → plan_names c ≡ plan_names d → c ≡ d
+same_plans (two_plans o n) (two_plans p q) e = ap (λ w. two_plans (get_or w 0 []) (get_or w 1 [])) e
+same_plans (two_plans o n) (with_limits p l q m) e = absurd (two_four o n p l q m e)
+same_plans (with_limits p l q m) (two_plans o n) e = absurd (two_four o n p l q m (sym e))
+same_plans (with_limits p l q m) (with_limits o k n j) e =
+    ap (λ w. with_limits (get_or w 0 []) (get_or w 1 []) (get_or w 2 []) (get_or w 3 [])) e
+
+same_names : (m n : Medium) (xs ys : List (List ℕ)) → behind_compare m xs ≡ behind_compare n ys → (m ≡ n) × (xs ≡ ys)
+same_names as_text as_text xs ys e = (refl, ap (λ w. drop 2 w) e)
+same_names as_text as_page xs ys e = absurd (text_compare (ap (λ w. get_or w 0 []) e))
+same_names as_page as_text xs ys e = absurd (text_compare (ap (λ w. get_or w 0 []) (sym e)))
+same_names as_page as_page xs ys e = (refl, ap (λ w. drop 1 w) e)
+
+same_compared : (m n : Medium) (c d : NamedPlans) → behind_compare m (plan_names c) ≡ behind_compare n (plan_names d)
+    → compared m c ≡ compared n d
+same_compared m n c d e =
+    let same = same_names m n (plan_names c) (plan_names d) e in
+    ap (λ x. compared x c) same.0 ∙ ap (λ x. compared n x) (same_plans c d same.1)
+
+-- how many words a comparison has
+compare_long : (m : Medium) (c : NamedPlans) → 3 ≤ length (behind_compare m (plan_names c))
+compare_long as_text (two_plans o n) = omega arith
+compare_long as_text (with_limits o l n k) = omega arith
+compare_long as_page (two_plans o n) = omega arith
+compare_long as_page (with_limits o l n k) = omega arith
+
+two_compare : (a b : List ℕ) (m : Medium) (c : NamedPlans) → a ∷ b ∷ [] ≡ behind_compare m (plan_names c) → ⊥
+two_compare a b m c h =
+    let l : 2 ≡ length (behind_compare m (plan_names c)) = ap (λ w. length w) h in
+    omega (arith, l, compare_long m c)
 
 pub one_form : (words : List (List ℕ)) (a b : Form) → HasForm words a → HasForm words b → a ≡ b
 one_form words (chart p) (chart q) h k = ap (λ x. chart x) (second words _ p _ q [] [] h k)
@@ -99,25 +175,29 @@ one_form words (chart_within p l) (ranges q) h k = absurd (two_three _ q _ p l (
 one_form words (ranges p) (chart q) h k = absurd (chart_ranges (first words _ _ (q ∷ []) (p ∷ []) k h))
 one_form words (ranges p) (chart_within q l) h k = absurd (two_three _ p _ q l (sym h ∙ k))
 one_form words (ranges p) (ranges q) h k = ap (λ x. ranges x) (second words _ p _ q [] [] h k)
-one_form words (chart p) (compared o n) h k = absurd (two_more _ p _ _ o n [] (sym h ∙ k))
-one_form words (chart_within p l) (compared o n) h k = absurd (three_more _ p l _ _ o n [] (sym h ∙ k))
-one_form words (ranges p) (compared o n) h k = absurd (two_more _ p _ _ o n [] (sym h ∙ k))
-one_form words (compared o n) (chart p) h k = absurd (two_more _ p _ _ o n [] (sym k ∙ h))
-one_form words (compared o n) (chart_within p l) h k = absurd (three_more _ p l _ _ o n [] (sym k ∙ h))
-one_form words (compared o n) (ranges p) h k = absurd (two_more _ p _ _ o n [] (sym k ∙ h))
-one_form words (compared o n) (compared q m) h k =
-    ap (λ x. compared x n) (third_of_four words _ _ o n _ _ q m h k)
-    ∙ ap (λ x. compared q x) (fourth words _ _ o n _ _ q m h k)
+one_form words (chart p) (compared m c) h k =
+    absurd (no_compare_first words (p ∷ []) (plan_names c) _ m h k chart_text chart_compare)
+one_form words (chart_within p l) (compared m c) h k =
+    absurd (no_compare_first words (p ∷ l ∷ []) (plan_names c) _ m h k chart_text chart_compare)
+one_form words (ranges p) (compared m c) h k =
+    absurd (no_compare_first words (p ∷ []) (plan_names c) _ m h k ranges_text ranges_compare)
+one_form words (compared m c) (chart p) h k =
+    absurd (no_compare_first words (p ∷ []) (plan_names c) _ m k h chart_text chart_compare)
+one_form words (compared m c) (chart_within p l) h k =
+    absurd (no_compare_first words (p ∷ l ∷ []) (plan_names c) _ m k h chart_text chart_compare)
+one_form words (compared m c) (ranges p) h k =
+    absurd (no_compare_first words (p ∷ []) (plan_names c) _ m k h ranges_text ranges_compare)
+one_form words (compared m c) (compared n d) h k = same_compared m n c d (sym h ∙ k)
 one_form words (chart p) (traced q l vs) h k = absurd (two_more _ p _ _ q l k.rest (sym h ∙ k.words_are))
 one_form words (chart_within p m) (traced q l vs) h k = absurd (three_more _ p m _ _ q l k.rest (sym h ∙ k.words_are))
 one_form words (ranges p) (traced q l vs) h k = absurd (two_more _ p _ _ q l k.rest (sym h ∙ k.words_are))
-one_form words (compared o n) (traced q l vs) h k =
-    absurd (compare_trace (second words _ (codes "compare") _ (codes "trace") (o ∷ n ∷ []) (q ∷ l ∷ k.rest) h k.words_are))
+one_form words (compared m c) (traced q l vs) h k =
+    absurd (no_compare_second words (q ∷ l ∷ k.rest) (plan_names c) _ m k.words_are h trace_compare)
 one_form words (traced q l vs) (chart p) h k = absurd (two_more _ p _ _ q l h.rest (sym k ∙ h.words_are))
 one_form words (traced q l vs) (chart_within p m) h k = absurd (three_more _ p m _ _ q l h.rest (sym k ∙ h.words_are))
 one_form words (traced q l vs) (ranges p) h k = absurd (two_more _ p _ _ q l h.rest (sym k ∙ h.words_are))
-one_form words (traced q l vs) (compared o n) h k =
-    absurd (compare_trace (second words _ (codes "compare") _ (codes "trace") (o ∷ n ∷ []) (q ∷ l ∷ h.rest) k h.words_are))
+one_form words (traced q l vs) (compared m c) h k =
+    absurd (no_compare_second words (q ∷ l ∷ h.rest) (plan_names c) _ m h.words_are k trace_compare)
 one_form words (traced p l vs) (traced q m us) h k =
     let same = sym h.words_are ∙ k.words_are in
     ap (λ w. traced (get_or w 2 []) (get_or w 3 []) vs) same
@@ -127,16 +207,16 @@ one_form words (chart p) (drawn q l vs) h k = absurd (two_rest _ p _ q l k.rest 
 one_form words (chart_within p m) (drawn q l vs) h k =
     absurd (chart_trace (first words _ _ (p ∷ m ∷ []) (q ∷ l ∷ k.rest) h k.words_are))
 one_form words (ranges p) (drawn q l vs) h k = absurd (two_rest _ p _ q l k.rest (sym h ∙ k.words_are))
-one_form words (compared o n) (drawn q l vs) h k =
-    absurd (text_trace (first words _ _ (codes "compare" ∷ o ∷ n ∷ []) (q ∷ l ∷ k.rest) h k.words_are))
+one_form words (compared m c) (drawn q l vs) h k =
+    absurd (no_compare_first words (q ∷ l ∷ k.rest) (plan_names c) _ m k.words_are h trace_text trace_compare)
 one_form words (traced p m us) (drawn q l vs) h k =
     absurd (text_trace (first words _ _ (codes "trace" ∷ p ∷ m ∷ h.rest) (q ∷ l ∷ k.rest) h.words_are k.words_are))
 one_form words (drawn q l vs) (chart p) h k = absurd (two_rest _ p _ q l h.rest (sym k ∙ h.words_are))
 one_form words (drawn q l vs) (chart_within p m) h k =
     absurd (chart_trace (first words _ _ (p ∷ m ∷ []) (q ∷ l ∷ h.rest) k h.words_are))
 one_form words (drawn q l vs) (ranges p) h k = absurd (two_rest _ p _ q l h.rest (sym k ∙ h.words_are))
-one_form words (drawn q l vs) (compared o n) h k =
-    absurd (text_trace (first words _ _ (codes "compare" ∷ o ∷ n ∷ []) (q ∷ l ∷ h.rest) k h.words_are))
+one_form words (drawn q l vs) (compared m c) h k =
+    absurd (no_compare_first words (q ∷ l ∷ h.rest) (plan_names c) _ m h.words_are k trace_text trace_compare)
 one_form words (drawn q l vs) (traced p m us) h k =
     absurd (text_trace (first words _ _ (codes "trace" ∷ p ∷ m ∷ k.rest) (q ∷ l ∷ h.rest) k.words_are h.words_are))
 one_form words (drawn p l vs) (drawn q m us) h k =
@@ -148,13 +228,15 @@ one_form words (chart p) (example q l) h k = absurd (two_three _ p _ q l (sym h 
 one_form words (chart_within p m) (example q l) h k =
     absurd (chart_example (first words _ _ (p ∷ m ∷ []) (q ∷ l ∷ []) h k))
 one_form words (ranges p) (example q l) h k = absurd (two_three _ p _ q l (sym h ∙ k))
-one_form words (compared o n) (example q l) h k = absurd (three_more _ q l _ _ o n [] (sym k ∙ h))
+one_form words (compared m c) (example q l) h k =
+    absurd (no_compare_first words (q ∷ l ∷ []) (plan_names c) _ m k h example_text example_compare)
 one_form words (traced p m vs) (example q l) h k = absurd (three_more _ q l _ _ p m h.rest (sym k ∙ h.words_are))
 one_form words (example q l) (chart p) h k = absurd (two_three _ p _ q l (sym k ∙ h))
 one_form words (example q l) (chart_within p m) h k =
     absurd (chart_example (first words _ _ (p ∷ m ∷ []) (q ∷ l ∷ []) k h))
 one_form words (example q l) (ranges p) h k = absurd (two_three _ p _ q l (sym k ∙ h))
-one_form words (example q l) (compared o n) h k = absurd (three_more _ q l _ _ o n [] (sym h ∙ k))
+one_form words (example q l) (compared m c) h k =
+    absurd (no_compare_first words (q ∷ l ∷ []) (plan_names c) _ m h k example_text example_compare)
 one_form words (example q l) (traced p m vs) h k = absurd (three_more _ q l _ _ p m k.rest (sym h ∙ k.words_are))
 one_form words (example p l) (example q m) h k =
     ap (λ x. example x l) (second words _ p _ q (l ∷ []) (m ∷ []) h k)
@@ -167,13 +249,15 @@ one_form words (chart p) (linted q l) h k = absurd (two_three _ p _ q l (sym h �
 one_form words (chart_within p m) (linted q l) h k =
     absurd (chart_lint (first words _ _ (p ∷ m ∷ []) (q ∷ l ∷ []) h k))
 one_form words (ranges p) (linted q l) h k = absurd (two_three _ p _ q l (sym h ∙ k))
-one_form words (compared o n) (linted q l) h k = absurd (three_more _ q l _ _ o n [] (sym k ∙ h))
+one_form words (compared m c) (linted q l) h k =
+    absurd (no_compare_first words (q ∷ l ∷ []) (plan_names c) _ m k h lint_text lint_compare)
 one_form words (traced p m vs) (linted q l) h k = absurd (three_more _ q l _ _ p m h.rest (sym k ∙ h.words_are))
 one_form words (linted q l) (chart p) h k = absurd (two_three _ p _ q l (sym k ∙ h))
 one_form words (linted q l) (chart_within p m) h k =
     absurd (chart_lint (first words _ _ (p ∷ m ∷ []) (q ∷ l ∷ []) k h))
 one_form words (linted q l) (ranges p) h k = absurd (two_three _ p _ q l (sym k ∙ h))
-one_form words (linted q l) (compared o n) h k = absurd (three_more _ q l _ _ o n [] (sym h ∙ k))
+one_form words (linted q l) (compared m c) h k =
+    absurd (no_compare_first words (q ∷ l ∷ []) (plan_names c) _ m h k lint_text lint_compare)
 one_form words (linted q l) (traced p m vs) h k = absurd (three_more _ q l _ _ p m k.rest (sym h ∙ k.words_are))
 one_form words (linted p l) (linted q m) h k =
     ap (λ x. linted x l) (second words _ p _ q (l ∷ []) (m ∷ []) h k)
@@ -190,8 +274,8 @@ one_form words (chart p) (covered q l t n) h k = absurd (two_more _ p _ _ q l (t
 one_form words (chart_within p m) (covered q l t n) h k =
     absurd (three_more _ p m _ _ q l (t ∷ least_words n) (sym h ∙ k.words_are))
 one_form words (ranges p) (covered q l t n) h k = absurd (two_more _ p _ _ q l (t ∷ least_words n) (sym h ∙ k.words_are))
-one_form words (compared o m) (covered q l t n) h k =
-    absurd (compare_cover (second words _ (codes "compare") _ (codes "cover") (o ∷ m ∷ []) (q ∷ l ∷ t ∷ least_words n) h k.words_are))
+one_form words (compared m c) (covered q l t n) h k =
+    absurd (no_compare_second words (q ∷ l ∷ t ∷ least_words n) (plan_names c) _ m k.words_are h cover_compare)
 one_form words (traced p m vs) (covered q l t n) h k =
     absurd (cover_trace (second words _ (codes "cover") _ (codes "trace") (q ∷ l ∷ t ∷ least_words n) (p ∷ m ∷ h.rest) k.words_are h.words_are))
 one_form words (drawn p m vs) (covered q l t n) h k =
@@ -204,8 +288,8 @@ one_form words (covered q l t n) (chart p) h k = absurd (two_more _ p _ _ q l (t
 one_form words (covered q l t n) (chart_within p m) h k =
     absurd (three_more _ p m _ _ q l (t ∷ least_words n) (sym k ∙ h.words_are))
 one_form words (covered q l t n) (ranges p) h k = absurd (two_more _ p _ _ q l (t ∷ least_words n) (sym k ∙ h.words_are))
-one_form words (covered q l t n) (compared o m) h k =
-    absurd (compare_cover (second words _ (codes "compare") _ (codes "cover") (o ∷ m ∷ []) (q ∷ l ∷ t ∷ least_words n) k h.words_are))
+one_form words (covered q l t n) (compared m c) h k =
+    absurd (no_compare_second words (q ∷ l ∷ t ∷ least_words n) (plan_names c) _ m h.words_are k cover_compare)
 one_form words (covered q l t n) (traced p m vs) h k =
     absurd (cover_trace (second words _ (codes "cover") _ (codes "trace") (q ∷ l ∷ t ∷ least_words n) (p ∷ m ∷ k.rest) h.words_are k.words_are))
 one_form words (covered q l t n) (drawn p m vs) h k =
@@ -227,62 +311,71 @@ pub no_two : (command plan : List ℕ) → ¬ (command ≡ codes "chart") → ¬
 no_two command plan no_chart no_ranges (chart p) h = no_chart (ap (λ w. get_or w 0 []) h)
 no_two command plan no_chart no_ranges (chart_within p l) h = two_three _ plan _ p l h
 no_two command plan no_chart no_ranges (ranges p) h = no_ranges (ap (λ w. get_or w 0 []) h)
-no_two command plan no_chart no_ranges (compared o n) h = two_more _ plan _ _ o n [] h
+no_two command plan no_chart no_ranges (compared m c) h = two_compare _ plan m c h
 no_two command plan no_chart no_ranges (traced p l vs) h = two_more _ plan _ _ p l h.rest h.words_are
 no_two command plan no_chart no_ranges (drawn p l vs) h = two_rest _ plan _ p l h.rest h.words_are
 no_two command plan no_chart no_ranges (example p l) h = two_three _ plan _ p l h
 no_two command plan no_chart no_ranges (linted p l) h = two_three _ plan _ p l h
 no_two command plan no_chart no_ranges (covered p l t n) h = two_more _ plan _ _ p l (t ∷ least_words n) h.words_are
 
+three_compare : (a b d : List ℕ) (m : Medium) (c : NamedPlans) → ¬ (a ≡ codes "compare")
+    → a ∷ b ∷ d ∷ [] ≡ behind_compare m (plan_names c) → ⊥
+three_compare a b d as_text (two_plans o n) no_page h = three_more a b d _ _ o n [] h
+three_compare a b d as_text (with_limits o l n k) no_page h = three_more a b d _ _ o l (n ∷ k ∷ []) h
+three_compare a b d as_page c no_page h = no_page (ap (λ w. get_or w 0 []) h)
+
 -- a command and two names
 pub no_three : (command plan limits : List ℕ) → ¬ (command ≡ codes "chart") → ¬ (command ≡ codes "trace") → ¬ (command ≡ codes "example")
-    → ¬ (command ≡ codes "lint")
+    → ¬ (command ≡ codes "lint") → ¬ (command ≡ codes "compare")
     → IsBad (command ∷ plan ∷ limits ∷ [])
-no_three command plan limits no_chart no_trace no_example no_lint (chart p) h = two_three _ p _ plan limits (sym h)
-no_three command plan limits no_chart no_trace no_example no_lint (chart_within p l) h = no_chart (ap (λ w. get_or w 0 []) h)
-no_three command plan limits no_chart no_trace no_example no_lint (ranges p) h = two_three _ p _ plan limits (sym h)
-no_three command plan limits no_chart no_trace no_example no_lint (compared o n) h = three_more _ plan limits _ _ o n [] h
-no_three command plan limits no_chart no_trace no_example no_lint (traced p l vs) h = three_more _ plan limits _ _ p l h.rest h.words_are
-no_three command plan limits no_chart no_trace no_example no_lint (drawn p l vs) h = no_trace (ap (λ w. get_or w 0 []) h.words_are)
-no_three command plan limits no_chart no_trace no_example no_lint (example p l) h = no_example (ap (λ w. get_or w 0 []) h)
-no_three command plan limits no_chart no_trace no_example no_lint (linted p l) h = no_lint (ap (λ w. get_or w 0 []) h)
-no_three command plan limits no_chart no_trace no_example no_lint (covered p l t n) h =
+no_three command plan limits no_chart no_trace no_example no_lint no_compare (chart p) h = two_three _ p _ plan limits (sym h)
+no_three command plan limits no_chart no_trace no_example no_lint no_compare (chart_within p l) h = no_chart (ap (λ w. get_or w 0 []) h)
+no_three command plan limits no_chart no_trace no_example no_lint no_compare (ranges p) h = two_three _ p _ plan limits (sym h)
+no_three command plan limits no_chart no_trace no_example no_lint no_compare (compared m c) h = three_compare command plan limits m c no_compare h
+no_three command plan limits no_chart no_trace no_example no_lint no_compare (traced p l vs) h = three_more _ plan limits _ _ p l h.rest h.words_are
+no_three command plan limits no_chart no_trace no_example no_lint no_compare (drawn p l vs) h = no_trace (ap (λ w. get_or w 0 []) h.words_are)
+no_three command plan limits no_chart no_trace no_example no_lint no_compare (example p l) h = no_example (ap (λ w. get_or w 0 []) h)
+no_three command plan limits no_chart no_trace no_example no_lint no_compare (linted p l) h = no_lint (ap (λ w. get_or w 0 []) h)
+no_three command plan limits no_chart no_trace no_example no_lint no_compare (covered p l t n) h =
     three_more _ plan limits _ _ p l (t ∷ least_words n) h.words_are
 
 -- a form, a command, two names and some words
 pub no_more : (form command first second : List ℕ) (rest : List (List ℕ))
     → (form ≡ codes "text" → ¬ (command ≡ codes "compare")) → (form ≡ codes "text" → ¬ (command ≡ codes "trace"))
-    → (form ≡ codes "text" → ¬ (command ≡ codes "cover")) → ¬ (form ≡ codes "trace")
+    → (form ≡ codes "text" → ¬ (command ≡ codes "cover")) → ¬ (form ≡ codes "trace") → ¬ (form ≡ codes "compare")
     → IsBad (form ∷ command ∷ first ∷ second ∷ rest)
-no_more form command first second rest no_compare no_trace no_cover no_drawn (chart p) h = two_more _ p _ _ first second rest (sym h)
-no_more form command first second rest no_compare no_trace no_cover no_drawn (chart_within p l) h =
+no_more form command first second rest no_compare no_trace no_cover no_drawn no_page (chart p) h = two_more _ p _ _ first second rest (sym h)
+no_more form command first second rest no_compare no_trace no_cover no_drawn no_page (chart_within p l) h =
     three_more _ p l _ _ first second rest (sym h)
-no_more form command first second rest no_compare no_trace no_cover no_drawn (ranges p) h = two_more _ p _ _ first second rest (sym h)
-no_more form command first second rest no_compare no_trace no_cover no_drawn (compared o n) h =
+no_more form command first second rest no_compare no_trace no_cover no_drawn no_page (ranges p) h = two_more _ p _ _ first second rest (sym h)
+no_more form command first second rest no_compare no_trace no_cover no_drawn no_page (compared as_text c) h =
     no_compare (ap (λ w. get_or w 0 []) h) (ap (λ w. get_or w 1 []) h)
-no_more form command first second rest no_compare no_trace no_cover no_drawn (traced p l vs) h =
+no_more form command first second rest no_compare no_trace no_cover no_drawn no_page (compared as_page c) h =
+    no_page (ap (λ w. get_or w 0 []) h)
+no_more form command first second rest no_compare no_trace no_cover no_drawn no_page (traced p l vs) h =
     no_trace (ap (λ w. get_or w 0 []) h.words_are) (ap (λ w. get_or w 1 []) h.words_are)
-no_more form command first second rest no_compare no_trace no_cover no_drawn (drawn p l vs) h =
+no_more form command first second rest no_compare no_trace no_cover no_drawn no_page (drawn p l vs) h =
     no_drawn (ap (λ w. get_or w 0 []) h.words_are)
-no_more form command first second rest no_compare no_trace no_cover no_drawn (example p l) h =
+no_more form command first second rest no_compare no_trace no_cover no_drawn no_page (example p l) h =
     three_more _ p l _ _ first second rest (sym h)
-no_more form command first second rest no_compare no_trace no_cover no_drawn (linted p l) h =
+no_more form command first second rest no_compare no_trace no_cover no_drawn no_page (linted p l) h =
     three_more _ p l _ _ first second rest (sym h)
-no_more form command first second rest no_compare no_trace no_cover no_drawn (covered p l t n) h =
+no_more form command first second rest no_compare no_trace no_cover no_drawn no_page (covered p l t n) h =
     no_cover (ap (λ w. get_or w 0 []) h.words_are) (ap (λ w. get_or w 1 []) h.words_are)
 
--- `text compare` and more than two names
-pub no_compared : (old new : List ℕ) (rest : List (List ℕ)) → ¬ (length rest ≡ 0)
-    → IsBad (text_words (codes "compare") old new rest)
-no_compared old new rest more (chart p) h = two_more _ p _ _ old new rest (sym h)
-no_compared old new rest more (chart_within p l) h = three_more _ p l _ _ old new rest (sym h)
-no_compared old new rest more (ranges p) h = two_more _ p _ _ old new rest (sym h)
-no_compared old new rest more (compared o n) h = more (ap (λ w. length (drop 4 w)) h)
-no_compared old new rest more (traced p l vs) h = compare_trace (ap (λ w. get_or w 1 []) h.words_are)
-no_compared old new rest more (drawn p l vs) h = text_trace (ap (λ w. get_or w 0 []) h.words_are)
-no_compared old new rest more (example p l) h = three_more _ p l _ _ old new rest (sym h)
-no_compared old new rest more (linted p l) h = three_more _ p l _ _ old new rest (sym h)
-no_compared old new rest more (covered p l t n) h = compare_cover (ap (λ w. get_or w 1 []) h.words_are)
+-- the words for a comparison and names that aren't those of two or four files
+pub no_compared : (m : Medium) (names : List (List ℕ)) → ((plans : NamedPlans) → ¬ (names ≡ plan_names plans))
+    → IsBad (behind_compare m names)
+no_compared m names none (chart p) h = no_compare_first _ (p ∷ []) names _ m h refl chart_text chart_compare
+no_compared m names none (chart_within p l) h = no_compare_first _ (p ∷ l ∷ []) names _ m h refl chart_text chart_compare
+no_compared m names none (ranges p) h = no_compare_first _ (p ∷ []) names _ m h refl ranges_text ranges_compare
+no_compared m names none (compared n d) h = none d (same_names m n names (plan_names d) h).1
+no_compared m names none (traced p l vs) h = no_compare_second _ (p ∷ l ∷ h.rest) names _ m h.words_are refl trace_compare
+no_compared m names none (drawn p l vs) h = no_compare_first _ (p ∷ l ∷ h.rest) names _ m h.words_are refl trace_text trace_compare
+no_compared m names none (example p l) h = no_compare_first _ (p ∷ l ∷ []) names _ m h refl example_text example_compare
+no_compared m names none (linted p l) h = no_compare_first _ (p ∷ l ∷ []) names _ m h refl lint_text lint_compare
+no_compared m names none (covered p l t n) h =
+    no_compare_second _ (p ∷ l ∷ t ∷ least_words n) names _ m h.words_are refl cover_compare
 
 -- `text trace` and words that give no values
 pub no_traced : (plan limits : List ℕ) (rest : List (List ℕ)) → ((values : List NamedValue) → ¬ (AreValueWords rest values))
@@ -290,7 +383,8 @@ pub no_traced : (plan limits : List ℕ) (rest : List (List ℕ)) → ((values :
 no_traced plan limits rest none (chart p) h = two_more _ p _ _ plan limits rest (sym h)
 no_traced plan limits rest none (chart_within p l) h = three_more _ p l _ _ plan limits rest (sym h)
 no_traced plan limits rest none (ranges p) h = two_more _ p _ _ plan limits rest (sym h)
-no_traced plan limits rest none (compared o n) h = compare_trace (sym (ap (λ w. get_or w 1 []) h))
+no_traced plan limits rest none (compared m c) h =
+    no_compare_second _ (plan ∷ limits ∷ rest) (plan_names c) _ m refl h trace_compare
 no_traced plan limits rest none (traced p l vs) h =
     none vs (subst (λ r. AreValueWords r vs) (sym (ap (λ w. drop 4 w) h.words_are)) h.values_are)
 no_traced plan limits rest none (drawn p l vs) h = text_trace (ap (λ w. get_or w 0 []) h.words_are)
@@ -304,7 +398,8 @@ pub no_drawn : (plan limits : List ℕ) (rest : List (List ℕ)) → ((values : 
 no_drawn plan limits rest none (chart p) h = two_rest _ p _ plan limits rest (sym h)
 no_drawn plan limits rest none (chart_within p l) h = chart_trace (sym (ap (λ w. get_or w 0 []) h))
 no_drawn plan limits rest none (ranges p) h = two_rest _ p _ plan limits rest (sym h)
-no_drawn plan limits rest none (compared o n) h = text_trace (sym (ap (λ w. get_or w 0 []) h))
+no_drawn plan limits rest none (compared m c) h =
+    no_compare_first _ (plan ∷ limits ∷ rest) (plan_names c) _ m refl h trace_text trace_compare
 no_drawn plan limits rest none (traced p l vs) h = text_trace (sym (ap (λ w. get_or w 0 []) h.words_are))
 no_drawn plan limits rest none (drawn p l vs) h =
     none vs (subst (λ r. AreValueWords r vs) (sym (ap (λ w. drop 3 w) h.words_are)) h.values_are)
@@ -319,7 +414,8 @@ pub no_covered : (plan limits : List ℕ) (rest : List (List ℕ))
 no_covered plan limits rest none (chart p) h = two_more _ p _ _ plan limits rest (sym h)
 no_covered plan limits rest none (chart_within p l) h = three_more _ p l _ _ plan limits rest (sym h)
 no_covered plan limits rest none (ranges p) h = two_more _ p _ _ plan limits rest (sym h)
-no_covered plan limits rest none (compared o n) h = compare_cover (sym (ap (λ w. get_or w 1 []) h))
+no_covered plan limits rest none (compared m c) h =
+    no_compare_second _ (plan ∷ limits ∷ rest) (plan_names c) _ m refl h cover_compare
 no_covered plan limits rest none (traced p l vs) h = cover_trace (ap (λ w. get_or w 1 []) h.words_are)
 no_covered plan limits rest none (drawn p l vs) h = text_trace (ap (λ w. get_or w 0 []) h.words_are)
 no_covered plan limits rest none (example p l) h = three_more _ p l _ _ plan limits rest (sym h)
@@ -329,12 +425,19 @@ no_covered plan limits rest none (covered p l t n) h = none t n h.percent (ap (�
 as_many : (words : List (String Global)) (list : List (List ℕ)) → texts words ≡ list → length words ≡ length list
 as_many words list e = sym (length-map words (λ w. string_bytes w)) ∙ ap (λ w. length w) e
 
+-- the words behind two names are neither none nor two
+pub neither_none_nor_two : (first second : List ℕ) (words : List (String Global)) → ¬ (length words ≡ 0) → ¬ (length words ≡ 2)
+    → (plans : NamedPlans) → ¬ (first ∷ second ∷ texts words ≡ plan_names plans)
+neither_none_nor_two first second words none two (two_plans o n) e = none (as_many words [] (ap (λ w. drop 2 w) e))
+neither_none_nor_two first second words none two (with_limits o l n k) e =
+    two (as_many words (n ∷ k ∷ []) (ap (λ w. drop 2 w) e))
+
 -- neither two words nor more
 pub no_other : (words : List (String Global)) → ¬ (length words ≡ 2) → length words < 3 → IsBad (texts words)
 no_other words two few (chart p) h = two (as_many words _ h)
 no_other words two few (chart_within p l) h = let l = as_many words _ h in omega (arith, l, few)
 no_other words two few (ranges p) h = two (as_many words _ h)
-no_other words two few (compared o n) h = let l = as_many words _ h in omega (arith, l, few)
+no_other words two few (compared m c) h = let l = as_many words _ h in omega (arith, l, few, compare_long m c)
 no_other words two few (traced p l vs) h = let l = as_many words _ h.words_are in omega (arith, l, few)
 no_other words two few (drawn p l vs) h = let l = as_many words _ h.words_are in omega (arith, l, few)
 no_other words two few (example p l) h = let l = as_many words _ h in omega (arith, l, few)

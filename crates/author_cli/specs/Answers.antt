@@ -13,10 +13,16 @@ use Rattle.plain_words.specs.Refusals.{TellsPlan}
 use Rattle.plan_answers.specs.Lines.{refusal_line}
 use Rattle.plan_answers.specs.Refusals.{read_detail}
 use Rattle.range_draft.specs.Draft.{IsDraft}
-use Rattle.flowchart_page.specs.Pages.{IsPage}
+use Rattle.pap_tree.specs.Flowchart.{Flowchart}
+use Rattle.limits_file.specs.declared.limits.Limits.{Limits}
+use Rattle.pap_plan.specs.declared.refusal.PlanRefusal.{PlanRefusal}
+use Rattle.pap_plan.specs.Acceptance.{Meaning, IsAccepted, IsRefused}
+use Rattle.range_marks.specs.RangeMarks.{WalkFindings, AreFindings, range_marks}
+use Rattle.flowchart_page.specs.Pages.{IsPage, IsRunPage}
+use Rattle.flowchart_page.specs.Runs.{all_runs}
 use Rattle.flowchart_page.specs.Verdicts.{files_with, IsJudged}
-use Rattle.author_cli.specs.Words.{Form, chart, chart_within, ranges, compared, traced, drawn, example, linted, covered}
-use Rattle.author_cli.specs.Compared.{IsCompared}
+use Rattle.author_cli.specs.Words.{Medium, NamedPlans, two_plans, with_limits, Form, chart, chart_within, ranges, compared, traced, drawn, example, linted, covered}
+use Rattle.author_cli.specs.Compared.{IsCompared, IsComparedPairs}
 use Rattle.author_cli.specs.Traced.{IsTraced}
 use Rattle.author_cli.specs.Drawn.{IsDrawn}
 use Rattle.author_cli.specs.Examples.{IsExample}
@@ -34,6 +40,29 @@ pub record Answer : Type 0 where
 pub record IsChart (plan : NamedText) (limits : Option NamedText) (answer : Answer) : Type 0 where
   pub page : IsPage plan.bytes (option_map (λ file. file.bytes) limits) answer.reason answer.text
   pub judged : IsJudged plan limits answer.reason
+
+-- the page of an accepted plan of this flowchart and these limits: its drawings have the marks of what the walk over its ranges finds
+pub record ShowsRanges (plan limits : NamedText) (f : Flowchart) (l : Limits) (answer : Answer) : Type 0 where
+  pub findings : WalkFindings
+  pub are_findings : AreFindings f l findings
+  pub page : IsRunPage (Some (all_runs (range_marks f findings))) plan.bytes (Some limits.bytes) answer.reason answer.text
+  pub judged : IsJudged plan (Some limits) answer.reason
+
+-- the plan is accepted, and its page shows what the walk over its ranges finds
+pub record ChartsAccepted (plan limits : NamedText) (answer : Answer) : Type 0 where
+  pub meaning : Meaning
+  pub accepted : IsAccepted plan.bytes limits.bytes meaning
+  pub shows : ShowsRanges plan limits meaning.flowchart meaning.limits answer
+
+-- the plan is refused for this, and its page has no marks of ranges
+pub record ChartsRefused (r : PlanRefusal) (plan limits : NamedText) (answer : Answer) : Type 0 where
+  pub refused : IsRefused plan.bytes limits.bytes r
+  pub is_chart : IsChart plan (Some limits) answer
+
+-- the page of a plan with a range file
+abbrev pub IsChartWithin : (plan limits : NamedText) → Answer → Type 0
+IsChartWithin plan limits answer =
+    ChartsAccepted plan limits answer ⊎ ((r : PlanRefusal) × ChartsRefused r plan limits answer)
 
 -- ---- ranges
 
@@ -81,15 +110,34 @@ pub record ChartsFiles (plan limits : List ℕ) (files : FileMap) (answer : Answ
   pub limits_bytes : List ℕ
   pub plan_there : files plan ≡ Some plan_bytes
   pub limits_there : files limits ≡ Some limits_bytes
-  pub is : IsChart (file_of plan plan_bytes) (Some (file_of limits limits_bytes)) answer
+  pub is : IsChartWithin (file_of plan plan_bytes) (file_of limits limits_bytes) answer
 
 -- both files are there, and this is the answer on their comparison
-pub record ComparesFiles (old new : List ℕ) (files : FileMap) (answer : Answer) : Type 0 where
+pub record ComparesFiles (medium : Medium) (old new : List ℕ) (files : FileMap) (answer : Answer) : Type 0 where
   pub old_bytes : List ℕ
   pub new_bytes : List ℕ
   pub old_there : files old ≡ Some old_bytes
   pub new_there : files new ≡ Some new_bytes
-  pub is : IsCompared (file_of old old_bytes) (file_of new new_bytes) answer.text answer.reason
+  pub is : IsCompared medium (file_of old old_bytes) (file_of new new_bytes) answer.text answer.reason
+
+-- the four files are there, and this is the answer on the comparison of the plans and of their range files
+pub record ComparesPairs (medium : Medium) (old old_limits new new_limits : List ℕ) (files : FileMap) (answer : Answer) : Type 0 where
+  pub old_bytes : List ℕ
+  pub old_limits_bytes : List ℕ
+  pub new_bytes : List ℕ
+  pub new_limits_bytes : List ℕ
+  pub old_there : files old ≡ Some old_bytes
+  pub old_limits_there : files old_limits ≡ Some old_limits_bytes
+  pub new_there : files new ≡ Some new_bytes
+  pub new_limits_there : files new_limits ≡ Some new_limits_bytes
+  pub is : IsComparedPairs medium (record { plan = file_of old old_bytes; ranges = file_of old_limits old_limits_bytes })
+      (record { plan = file_of new new_bytes; ranges = file_of new_limits new_limits_bytes }) answer.text answer.reason
+
+-- the answer on the comparison of these files
+abbrev pub ComparesPlans : Medium → NamedPlans → FileMap → Answer → Type 0
+ComparesPlans medium (two_plans old new) files answer = ComparesFiles medium old new files answer
+ComparesPlans medium (with_limits old old_limits new new_limits) files answer =
+    ComparesPairs medium old old_limits new new_limits files answer
 
 -- both files are there, and this is the answer on the run of the one within the ranges of the other
 pub record TracesFiles (values : List NamedValue) (plan limits : List ℕ) (files : FileMap) (answer : Answer) : Type 0 where
@@ -138,7 +186,7 @@ abbrev pub Answers : Form → FileMap → Answer → Type 0
 Answers (chart plan) files answer = AnswersFile (λ file page. IsChart file None page) plan files answer
 Answers (chart_within plan limits) files answer = ChartsFiles plan limits files answer
 Answers (ranges plan) files answer = AnswersFile IsRanges plan files answer
-Answers (compared old new) files answer = ComparesFiles old new files answer
+Answers (compared medium plans) files answer = ComparesPlans medium plans files answer
 Answers (traced plan limits values) files answer = TracesFiles values plan limits files answer
 Answers (drawn plan limits values) files answer = DrawsFiles values plan limits files answer
 Answers (example plan limits) files answer = SearchesFiles plan limits files answer

@@ -6,7 +6,7 @@ use Rattle.outside.specs.Causes.{Still}
 use Rattle.outside.specs.Told.{FileMap, Appends, AppendsShort}
 use Rattle.plan_answers.specs.Fronts.{IsMissing}
 use Rattle.author_cli.specs.declared.stop.Stop.TheVariants as stops
-use Rattle.author_cli.specs.Words.{Form, chart, chart_within, ranges, compared, traced, drawn, example, linted, covered}
+use Rattle.author_cli.specs.Words.{NamedPlans, two_plans, with_limits, Form, chart, chart_within, ranges, compared, traced, drawn, example, linted, covered}
 use Rattle.author_cli.specs.Answers.{Answer, Answers}
 use Rattle.author_cli.specs.Ends.{Ended, words_of}
 use Rattle.author_cli.specs.Outside.{Outside}
@@ -17,12 +17,23 @@ IsMissingOfThree told plan limits table failed =
     IsMissing told plan limits failed
     ⊎ ((failed ≡ Some table) × ForSome told (λ files. IsSome (files plan) × IsSome (files limits)))
 
+-- the name at which the files failed: that of the first pair's two files, or that of the second's where both of the first are there
+abbrev pub IsMissingOfPairs : Option FileMap → (old old_limits new new_limits : List ℕ) → Option (List ℕ) → Type 0
+IsMissingOfPairs told old old_limits new new_limits failed =
+    IsMissing told old old_limits failed
+    ⊎ (IsMissing told new new_limits failed × ForSome told (λ files. IsSome (files old) × IsSome (files old_limits)))
+
+-- the name at which the files that are compared failed
+abbrev pub LacksPlan : NamedPlans → Option FileMap → Option (List ℕ) → Type 0
+LacksPlan (two_plans old new) told failed = IsMissing told old new failed
+LacksPlan (with_limits old old_limits new new_limits) told failed = IsMissingOfPairs told old old_limits new new_limits failed
+
 -- the name at which the files failed: the first one, or the second one where the first file is there
 abbrev pub Lacks : Form → Option FileMap → Option (List ℕ) → Type 0
 Lacks (chart plan) told failed = failed ≡ Some plan
 Lacks (chart_within plan limits) told failed = IsMissing told plan limits failed
 Lacks (ranges plan) told failed = failed ≡ Some plan
-Lacks (compared old new) told failed = IsMissing told old new failed
+Lacks (compared medium plans) told failed = LacksPlan plans told failed
 Lacks (traced plan limits values) told failed = IsMissing told plan limits failed
 Lacks (drawn plan limits values) told failed = IsMissing told plan limits failed
 Lacks (example plan limits) told failed = IsMissing told plan limits failed

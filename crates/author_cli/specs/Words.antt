@@ -10,6 +10,20 @@ use Rattle.payroll_records.specs.ValueWords.{AreValueWords}
 abbrev pub texts : List (String Global) → List (List ℕ)
 texts words = map (λ word. string_bytes word) words
 
+-- in which form a comparison is written
+pub data Medium : Type 0 where
+  -- as a text for a terminal
+  as_text : Medium
+  -- as a page of HTML
+  as_page : Medium
+
+-- the files that are compared
+pub data NamedPlans : Type 0 where
+  -- OLD NEW
+  two_plans : (old new : List ℕ) → NamedPlans
+  -- OLD OLD_LIMITS NEW NEW_LIMITS
+  with_limits : (old old_limits new new_limits : List ℕ) → NamedPlans
+
 -- what the words ask for
 pub data Form : Type 0 where
   -- chart PLAN
@@ -18,8 +32,8 @@ pub data Form : Type 0 where
   chart_within : List ℕ → List ℕ → Form
   -- ranges PLAN
   ranges : List ℕ → Form
-  -- text compare OLD NEW
-  compared : List ℕ → List ℕ → Form
+  -- compare OLD NEW, compare OLD OLD_LIMITS NEW NEW_LIMITS, or either behind the word `text`
+  compared : Medium → NamedPlans → Form
   -- text trace PLAN LIMITS NAME=VALUE ..
   traced : List ℕ → List ℕ → List NamedValue → Form
   -- trace PLAN LIMITS NAME=VALUE ..
@@ -53,12 +67,22 @@ pub record HasCoverForm (words : List (List ℕ)) (plan limits table : List ℕ)
   pub words_are : words ≡ codes "text" ∷ codes "cover" ∷ plan ∷ limits ∷ table ∷ least_words least
   pub percent : ForSome least (λ n. n ≤ 100)
 
+-- the names of the files that are compared
+abbrev pub plan_names : NamedPlans → List (List ℕ)
+plan_names (two_plans old new) = old ∷ new ∷ []
+plan_names (with_limits old old_limits new new_limits) = old ∷ old_limits ∷ new ∷ new_limits ∷ []
+
+-- names behind the words for a comparison
+abbrev pub behind_compare : Medium → List (List ℕ) → List (List ℕ)
+behind_compare as_text names = codes "text" ∷ codes "compare" ∷ names
+behind_compare as_page names = codes "compare" ∷ names
+
 -- the words have this form
 abbrev pub HasForm : List (List ℕ) → Form → Type 0
 HasForm words (chart plan) = words ≡ codes "chart" ∷ plan ∷ []
 HasForm words (chart_within plan limits) = words ≡ codes "chart" ∷ plan ∷ limits ∷ []
 HasForm words (ranges plan) = words ≡ codes "ranges" ∷ plan ∷ []
-HasForm words (compared old new) = words ≡ codes "text" ∷ codes "compare" ∷ old ∷ new ∷ []
+HasForm words (compared medium plans) = words ≡ behind_compare medium (plan_names plans)
 HasForm words (traced plan limits values) = HasTraceForm words plan limits values
 HasForm words (drawn plan limits values) = HasDrawnForm words plan limits values
 HasForm words (example plan limits) = words ≡ codes "example" ∷ plan ∷ limits ∷ []

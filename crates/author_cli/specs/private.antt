@@ -1,7 +1,9 @@
 pub mod AnswerViews
 pub mod TwoFronts
+pub mod ChartViews
 pub mod CoveredViews
 pub mod WordViews
 pub mod GivenViews
 pub mod TracedViews
 pub mod DrawnViews
+pub mod PairViews

@@ -3,22 +3,23 @@ ghost use Rattle.std.specs.Prelude.{◌≡◌, IfOk, None, option_map};
 ghost use Rattle.outside.specs.Causes.{Caused};
 ghost use Rattle.pap_reader.specs.Elements.{IsFault};
 ghost use Rattle.plain_words.specs.Places.{named_text};
-ghost use Rattle.author_cli.specs.Words.{chart, chart_within, ranges, compared, traced, drawn, example, linted, covered};
-ghost use Rattle.author_cli.specs.private.WordViews.{form_of};
-ghost use Rattle.author_cli.specs.Answers.{IsChart, IsUnread, IsRanges};
+ghost use Rattle.author_cli.specs.Words.{two_plans, with_limits, chart, chart_within, ranges, compared, traced, drawn, example, linted, covered};
+ghost use Rattle.author_cli.specs.private.WordViews.{medium_of, plans_of, form_of};
+ghost use Rattle.author_cli.specs.Answers.{IsUnread, IsRanges};
 ghost use Rattle.author_cli.specs.private.AnswerViews.{answer_of, Makes};
 ghost use Rattle.author_cli.specs.Outside.{outside_of};
 ghost use Rattle.author_cli.specs.CallClauses.{Leaves};
 
+use crate::charted::{chart_within, page_of};
 use crate::compared::{compare_plans, read_two};
+use crate::compared_pairs::{PlanPair, compare_pairs, read_four};
 use crate::covered::{cover_plan, read_three};
 use crate::drawn::draw_trace;
 use crate::example::seek_example;
 use crate::linted::lint_plan;
 use crate::stop::Stop;
 use crate::traced::trace_plan;
-use crate::words::Request;
-use flowchart_page::{Chart, draw_chart};
+use crate::words::{Medium, NamedPlans, Request};
 use outside::{FileAnswer, Files, Sink, put_all};
 use pap_plan::PlanRefusal;
 use pap_reader::{LONGEST_PLAN, ReadFault, read_elements};
@@ -74,7 +75,7 @@ fn make_answer<F: Files>(
         Request::Chart { plan } => answer_chart(alloc, plan, files),
         Request::ChartWithin { plan, limits } => answer_chart_within(alloc, plan, limits, files),
         Request::Ranges { plan } => answer_ranges(alloc, plan, files),
-        Request::Compare { old, new } => answer_compared(alloc, old, new, files),
+        Request::Compare { medium, plans } => answer_named(alloc, medium, plans, files),
         Request::Trace {
             plan,
             limits,
@@ -132,7 +133,7 @@ fn answer_chart_within<F: Files>(
         name: limits,
         bytes: &limits_bytes,
     };
-    Ok(page_of(alloc, plan, Some(limits))?)
+    Ok(chart_within(alloc, plan, limits)?)
 }
 
 /// A range file to begin with.
@@ -150,14 +151,38 @@ fn answer_ranges<F: Files>(alloc: Global, plan: &str, files: &mut F) -> Result<A
     Ok(ranges_of(alloc, plan)?)
 }
 
-/// The comparison of two plans as a text.
+/// The comparison of the plans of these names.
+fn answer_named<F: Files>(
+    alloc: Global,
+    medium: Medium,
+    plans: NamedPlans<'_>,
+    files: &mut F,
+) -> Result<Answer, FileAnswer>
+    ensures made { Makes (compared (medium_of medium) (plans_of plans.entry))
+        (F.told files.old) (F.failed files.old) (F.failed files.new) result }
+    ensures same { F.told files.new ≡ F.told files.old }
+    ensures cause { Caused FileAnswer.Failed (F.faults files.old) (F.faults files.new) result }
+{
+    match plans {
+        NamedPlans::TwoPlans { old, new } => answer_compared(alloc, medium, old, new, files),
+        NamedPlans::WithLimits {
+            old,
+            old_limits,
+            new,
+            new_limits,
+        } => answer_pairs(alloc, medium, old, old_limits, new, new_limits, files),
+    }
+}
+
+/// The comparison of two plans.
 fn answer_compared<F: Files>(
     alloc: Global,
+    medium: Medium,
     old: &str,
     new: &str,
     files: &mut F,
 ) -> Result<Answer, FileAnswer>
-    ensures made { Makes (compared old.now new.now)
+    ensures made { Makes (compared (medium_of medium) (two_plans old.now new.now))
         (F.told files.old) (F.failed files.old) (F.failed files.new) result }
     ensures same { F.told files.new ≡ F.told files.old }
     ensures cause { Caused FileAnswer.Failed (F.faults files.old) (F.faults files.new) result }
@@ -171,7 +196,47 @@ fn answer_compared<F: Files>(
         name: new,
         bytes: &new_bytes,
     };
-    Ok(compare_plans(alloc, old, new)?)
+    Ok(compare_plans(alloc, medium, old, new)?)
+}
+
+/// The comparison of two plans with their range files.
+fn answer_pairs<F: Files>(
+    alloc: Global,
+    medium: Medium,
+    old: &str,
+    old_limits: &str,
+    new: &str,
+    new_limits: &str,
+    files: &mut F,
+) -> Result<Answer, FileAnswer>
+    ensures made { Makes (compared (medium_of medium)
+        (with_limits old.now old_limits.now new.now new_limits.now))
+        (F.told files.old) (F.failed files.old) (F.failed files.new) result }
+    ensures same { F.told files.new ≡ F.told files.old }
+    ensures cause { Caused FileAnswer.Failed (F.faults files.old) (F.faults files.new) result }
+{
+    let read = read_four(alloc, old, old_limits, new, new_limits, files)?;
+    let old = PlanPair {
+        plan: TextFile {
+            name: old,
+            bytes: &read.old,
+        },
+        limits: TextFile {
+            name: old_limits,
+            bytes: &read.old_limits,
+        },
+    };
+    let new = PlanPair {
+        plan: TextFile {
+            name: new,
+            bytes: &read.new,
+        },
+        limits: TextFile {
+            name: new_limits,
+            bytes: &read.new_limits,
+        },
+    };
+    Ok(compare_pairs(alloc, medium, old, new)?)
 }
 
 /// The text of a run.
@@ -300,20 +365,6 @@ fn answer_covered<F: Files>(
         bytes: &read.table,
     };
     Ok(cover_plan(alloc, plan, limits, table, least)?)
-}
-
-/// The page of a plan's bytes, with those of a range file or without.
-#[tactic(auto, using(crate::proofs::UnreadLemmas::charted))]
-fn page_of(
-    alloc: Global,
-    plan: TextFile<'_>,
-    limits: Option<TextFile<'_>>,
-) -> Result<Answer, AllocError>
-    ensures { IfOk result (λ answer. IsChart (named_text plan.entry)
-        (option_map (λ file. named_text file) limits.entry) (answer_of answer)) }
-{
-    let Chart { page, reason } = draw_chart(alloc, plan, limits)?;
-    Ok(Answer { text: page, reason })
 }
 
 /// The range file that begins with a plan's inputs, or the line of its refusal where the bytes aren't read as a plan.

@@ -19,8 +19,9 @@ use std::alloc::Global;
 /// page of HTML, without a range file or with that of the file LIMITS, `trace PLAN LIMITS NAME=VALUE ..`, which writes that
 /// page with the run on these inputs in it, `ranges PLAN`, which writes a range file to begin with, `example PLAN LIMITS`,
 /// which writes admitted inputs on which a run fails, or the parts of the ranges by which none does, or that neither was
-/// found, `lint PLAN LIMITS`, which writes a line for each thing that the flowchart has in vain, `text compare OLD NEW`, which
-/// writes what the flowchart of the file NEW changed against that of OLD, `text trace PLAN LIMITS NAME=VALUE ..`, which writes
+/// found, `lint PLAN LIMITS`, which writes a line for each thing that the flowchart has in vain, `compare OLD NEW`, which writes
+/// a page of what the flowchart of the file NEW changed against that of OLD, `compare OLD OLD_LIMITS NEW NEW_LIMITS`, which compares
+/// their range files too, `text compare ..`, which writes either as a text, `text trace PLAN LIMITS NAME=VALUE ..`, which writes
 /// each statement that a run on these inputs executes, and `text cover PLAN LIMITS TABLE`, with `--at-least N` behind it or
 /// without, which writes the statements and exits that no run of the table comes to. All other words are [`Stop::Words`]. `Ok`
 /// means that all was written: it has in plain words, in one line, why a plan or a table is refused or a run has no inputs, that

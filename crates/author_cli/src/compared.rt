@@ -1,5 +1,5 @@
 //! The comparison of two plans.
-ghost use Rattle.std.specs.Prelude.{◌≡◌, IfOk, IsErrOf, OnOk};
+ghost use Rattle.std.specs.Prelude.{◌≡◌, ◌++◌, IfOk, IsErrOf, OnOk, Some, option_map};
 ghost use Rattle.std.specs.Option.{ForSome};
 ghost use Rattle.outside.specs.Causes.{Caused};
 ghost use Rattle.pap_tree.specs.Flowchart.{flowchart_of};
@@ -8,18 +8,24 @@ ghost use Rattle.plan_text.specs.Plans.{IsPlan};
 ghost use Rattle.plan_answers.specs.Fronts.{IsMissing};
 ghost use Rattle.plain_words.specs.Places.{named_text};
 ghost use Rattle.author_cli.specs.Ends.{words_of};
-ghost use Rattle.author_cli.specs.Compared.{IsComparedText, IsUnreadable, IsCompared, difference_words};
+ghost use Rattle.comparison_page.specs.Texts.{comparison_text};
+ghost use Rattle.author_cli.specs.Compared.{TellsComparison, IsComparedText, IsUnreadable, IsCompared, comparison_in, ranges_text, difference_words};
+ghost use Rattle.author_cli.specs.private.WordViews.{medium_of};
 ghost use Rattle.author_cli.specs.private.TwoFronts.{AreTwoFronts};
 
 use crate::answer::Answer;
-use comparison_page::comparison_text;
-use flowchart_comparison::{compare, differs, read_outline};
+use crate::words::Medium;
+use comparison_page::{
+    FileNames, comparison_page, comparison_text, ranges_differ, write_range_changes,
+};
+use flowchart_comparison::{Comparison, Outline, compare, differs, read_outline};
 use outside::{FileAnswer, Files};
 use pap_plan::{PlanRefusal, read_plan};
 use pap_reader::LONGEST_PLAN;
 use pap_tree::PlanText;
 use plain_words::{TextFile, plan_words};
 use plan_answers::refused;
+use range_comparison::RangeChange;
 use std::alloc::{AllocError, Global};
 
 /// The bytes of both files, each by one call for one byte more than its limit.
@@ -47,14 +53,15 @@ pub(crate) fn read_two<F: Files>(
 /// The comparison of two plans' bytes, or the line of the first that isn't read as a plan.
 pub(crate) fn compare_plans(
     alloc: Global,
+    medium: Medium,
     old: TextFile<'_>,
     new: TextFile<'_>,
 ) -> Result<Answer, AllocError>
-    ensures { IfOk result (λ answer. IsCompared (named_text old.entry) (named_text new.entry)
-        answer.text.items (words_of answer.reason)) }
+    ensures { IfOk result (λ answer. IsCompared (medium_of medium) (named_text old.entry)
+        (named_text new.entry) answer.text.items (words_of answer.reason)) }
 {
     match read_plan(alloc, old.bytes) {
-        Ok(plan) => compare_with(alloc, old, &plan, new),
+        Ok(plan) => compare_with(alloc, medium, old, &plan, new),
         Err(refusal) => answer_unreadable(alloc, old, &refusal),
     }
 }
@@ -62,16 +69,17 @@ pub(crate) fn compare_plans(
 /// The comparison of a plan that is read with the bytes of another.
 fn compare_with(
     alloc: Global,
+    medium: Medium,
     old: TextFile<'_>,
     plan: &PlanText,
     new: TextFile<'_>,
 ) -> Result<Answer, AllocError>
     requires { IsPlan old.bytes.now (flowchart_of plan.now) }
-    ensures { IfOk result (λ answer. IsCompared (named_text old.entry) (named_text new.entry)
-        answer.text.items (words_of answer.reason)) }
+    ensures { IfOk result (λ answer. IsCompared (medium_of medium) (named_text old.entry)
+        (named_text new.entry) answer.text.items (words_of answer.reason)) }
 {
     match read_plan(alloc, new.bytes) {
-        Ok(other) => tell_plans(alloc, old.bytes, plan, new.bytes, &other),
+        Ok(other) => tell_plans(alloc, medium, old, plan, new, &other),
         Err(refusal) => answer_unreadable(alloc, new, &refusal),
     }
 }
@@ -79,33 +87,119 @@ fn compare_with(
 /// The comparison of two plans that are read.
 fn tell_plans(
     alloc: Global,
-    old: &[u8],
+    medium: Medium,
+    old: TextFile<'_>,
     old_plan: &PlanText,
-    new: &[u8],
+    new: TextFile<'_>,
     new_plan: &PlanText,
 ) -> Result<Answer, AllocError>
-    requires old_read { IsPlan old.now (flowchart_of old_plan.now) }
-    requires new_read { IsPlan new.now (flowchart_of new_plan.now) }
-    ensures { IfOk result
-        (λ answer. IsComparedText old.now new.now answer.text.items (words_of answer.reason)) }
+    requires old_read { IsPlan old.bytes.now (flowchart_of old_plan.now) }
+    requires new_read { IsPlan new.bytes.now (flowchart_of new_plan.now) }
+    ensures { IfOk result (λ answer. IsComparedText (medium_of medium) (named_text old.entry)
+        (named_text new.entry) answer.text.items (words_of answer.reason)) }
 {
-    let old = read_outline(alloc, old_plan)?;
-    let new = read_outline(alloc, new_plan)?;
+    let names = FileNames {
+        old: old.name,
+        new: new.name,
+    };
+    tell_comparison(alloc, medium, names, old_plan, new_plan, None)
+}
+
+/// The comparison of two plans, with the changes of their range files where these are compared.
+pub(crate) fn tell_comparison(
+    alloc: Global,
+    medium: Medium,
+    names: FileNames<'_>,
+    old: &PlanText,
+    new: &PlanText,
+    ranges: Option<&[RangeChange]>,
+) -> Result<Answer, AllocError>
+    ensures { IfOk result (λ answer. TellsComparison (medium_of medium)
+        names.entry.old.now names.entry.new.now (flowchart_of old.now) (flowchart_of new.now)
+        (option_map (λ changes. changes.now) ranges.entry)
+        answer.text.items (words_of answer.reason)) }
+{
+    let old = read_outline(alloc, old)?;
+    let new = read_outline(alloc, new)?;
     let comparison = compare(alloc, &old, &new)?;
-    let text = comparison_text(alloc, &old, &new, &comparison)?;
-    let reason = difference_words(alloc, differs(&old, &new, &comparison))?;
+    let text = write_comparison(alloc, medium, names, &old, &new, &comparison, ranges)?;
+    let is_other = differs(&old, &new, &comparison);
+    let reason = difference_words(alloc, is_other, ranges_differ(ranges))?;
     Ok(Answer { text, reason })
 }
 
-/// What is said of two plans that differ.
-fn difference_words(alloc: Global, is_other: bool) -> Result<Option<String>, AllocError>
-    ensures { IfOk result (λ words. words_of words ≡ difference_words is_other) }
+/// A comparison as it is written.
+fn write_comparison(
+    alloc: Global,
+    medium: Medium,
+    names: FileNames<'_>,
+    old: &Outline,
+    new: &Outline,
+    comparison: &Comparison,
+    ranges: Option<&[RangeChange]>,
+) -> Result<Vec<u8>, AllocError>
+    ensures { IfOk result (λ text. text.items ≡ comparison_in (medium_of medium)
+        names.entry.old.now names.entry.new.now old.now new.now comparison.now
+        (option_map (λ changes. changes.now) ranges.entry)) }
 {
-    if is_other {
-        Ok(Some(String::from_str(alloc, "the flowcharts differ")?))
-    } else {
-        Ok(None)
+    match medium {
+        Medium::Text => text_within(alloc, old, new, comparison, ranges),
+        Medium::Page => comparison_page(alloc, names, old, new, comparison, ranges),
     }
+}
+
+/// A comparison as a text, with the changes of range files below it.
+fn text_within(
+    alloc: Global,
+    old: &Outline,
+    new: &Outline,
+    comparison: &Comparison,
+    ranges: Option<&[RangeChange]>,
+) -> Result<Vec<u8>, AllocError>
+    ensures { IfOk result (λ text. text.items ≡ comparison_text old.now new.now comparison.now
+        ++ ranges_text (option_map (λ changes. changes.now) ranges.entry)) }
+{
+    let mut text = comparison_text(alloc, old, new, comparison)?;
+    write_ranges(alloc, &mut text, ranges)?;
+    Ok(text)
+}
+
+/// Appends the changes of range files, where they are compared.
+fn write_ranges(
+    alloc: Global,
+    text: &mut Vec<u8>,
+    ranges: Option<&[RangeChange]>,
+) -> Result<(), AllocError>
+    ensures { OnOk result (text.new.items
+        ≡ text.old.items ++ ranges_text (option_map (λ changes. changes.now) ranges.entry)) }
+{
+    match ranges {
+        Some(changes) => write_range_changes(alloc, text, changes),
+        None => Ok(()),
+    }
+}
+
+/// What is said where two flowcharts differ, or their range files.
+fn difference_words(
+    alloc: Global,
+    is_other: bool,
+    is_other_range: bool,
+) -> Result<Option<String>, AllocError>
+    ensures { IfOk result (λ words. words_of words ≡ difference_words is_other is_other_range) }
+{
+    match (is_other, is_other_range) {
+        (false, false) => Ok(None),
+        (true, false) => said(alloc, "the flowcharts differ"),
+        (false, true) => said(alloc, "the range files differ"),
+        (true, true) => said(alloc, "the flowcharts and the range files differ"),
+    }
+}
+
+/// These words.
+fn said(alloc: Global, words: &str) -> Result<Option<String>, AllocError>
+    ensures { IfOk result (λ said. words_of said ≡ Some words.now) }
+{
+    Ok(Some(String::from_str(alloc, words)?))
 }
 
 /// The line of a file that isn't read as a plan, as `papcalc check` writes it.

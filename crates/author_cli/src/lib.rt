@@ -3,7 +3,9 @@
 
 mod answer;
 mod call;
+mod charted;
 mod compared;
+mod compared_pairs;
 mod covered;
 mod covered_words;
 mod drawn;

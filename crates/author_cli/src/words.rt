@@ -2,12 +2,38 @@
 ghost use Rattle.std.specs.Prelude.{◌≡◌, ◌∷◌, [], codes, IfOk, MatchOption, List};
 ghost use Rattle.payroll_records.specs.declared.values.NamedValue.{NamedValue as Value};
 ghost use Rattle.payroll_records.specs.ValueWords.{AreValueWords};
-ghost use Rattle.author_cli.specs.Words.{texts, HasForm, IsBad};
-ghost use Rattle.author_cli.specs.private.WordViews.{form_of, text_words};
+ghost use Rattle.author_cli.specs.Words.{texts, NamedPlans as Plans, plan_names, behind_compare, HasForm, IsBad};
+ghost use Rattle.author_cli.specs.private.WordViews.{medium_of, plans_of, form_of, text_words};
 
 use crate::covered_words::read_covered;
 use payroll_records::{InsertFault, NamedValue, Values};
 use std::alloc::{AllocError, Global};
+
+/// In which form a comparison is written.
+#[derive(Clone, Copy)]
+pub(crate) enum Medium {
+    /// A text for a terminal.
+    Text,
+    /// A page of HTML.
+    Page,
+}
+
+/// The files that are compared, by their names.
+#[derive(Clone, Copy)]
+pub(crate) enum NamedPlans<'a> {
+    /// `OLD NEW`
+    TwoPlans {
+        old: &'a str,
+        new: &'a str,
+    },
+    /// `OLD OLD_LIMITS NEW NEW_LIMITS`
+    WithLimits {
+        old: &'a str,
+        old_limits: &'a str,
+        new: &'a str,
+        new_limits: &'a str,
+    },
+}
 
 /// What the words ask for, each file by its name.
 #[derive(Drop)]
@@ -25,10 +51,10 @@ pub(crate) enum Request<'a> {
     Ranges {
         plan: &'a str,
     },
-    /// `text compare OLD NEW`
+    /// `compare OLD NEW`, `compare OLD OLD_LIMITS NEW NEW_LIMITS`, or either behind the word `text`
     Compare {
-        old: &'a str,
-        new: &'a str,
+        medium: Medium,
+        plans: NamedPlans<'a>,
     },
     /// `text trace PLAN LIMITS NAME=VALUE ..`, with the values.
     Trace {
@@ -105,11 +131,12 @@ fn read_files<'a>(
 {
     match command {
         "trace" => read_drawn(alloc, first, second, rest),
+        "compare" => Ok(read_compared(Medium::Page, first, second, rest)),
         _ => read_others(alloc, command, first, second, rest),
     }
 }
 
-/// What three words and some more ask for, where the first isn't `trace`.
+/// What three words and some more ask for, where the first is neither `trace` nor `compare`.
 fn read_others<'a>(
     alloc: Global,
     command: &str,
@@ -117,7 +144,8 @@ fn read_others<'a>(
     second: &'a str,
     rest: &'a [String],
 ) -> Result<Option<Request<'a>>, AllocError>
-    requires { ¬ (command.now ≡ codes "trace") }
+    requires no_trace { ¬ (command.now ≡ codes "trace") }
+    requires no_compare { ¬ (command.now ≡ codes "compare") }
     ensures { let words = command.now ∷ first.now ∷ second.now ∷ texts rest.now in
         IfOk result (λ found. MatchOption found (IsBad words)
         (λ request. HasForm words (form_of request))) }
@@ -151,7 +179,8 @@ fn read_drawn<'a>(
 
 /// What a command and two names ask for.
 fn read_three<'a>(command: &str, plan: &'a str, limits: &'a str) -> Option<Request<'a>>
-    requires { ¬ (command.now ≡ codes "trace") }
+    requires no_trace { ¬ (command.now ≡ codes "trace") }
+    requires no_compare { ¬ (command.now ≡ codes "compare") }
     ensures { MatchOption result (IsBad (command.now ∷ plan.now ∷ limits.now ∷ []))
         (λ request. HasForm (command.now ∷ plan.now ∷ limits.now ∷ []) (form_of request)) }
 {
@@ -172,29 +201,52 @@ fn read_more<'a>(
     second: &'a str,
     rest: &'a [String],
 ) -> Result<Option<Request<'a>>, AllocError>
-    requires { ¬ (form.now ≡ codes "trace") }
+    requires no_trace { ¬ (form.now ≡ codes "trace") }
+    requires no_compare { ¬ (form.now ≡ codes "compare") }
     ensures { let words = form.now ∷ command.now ∷ first.now ∷ second.now ∷ texts rest.now in
         IfOk result (λ found. MatchOption found (IsBad words)
         (λ request. HasForm words (form_of request))) }
 {
     match (form, command) {
-        ("text", "compare") => Ok(read_compared(first, second, rest)),
+        ("text", "compare") => Ok(read_compared(Medium::Text, first, second, rest)),
         ("text", "trace") => read_trace(alloc, first, second, rest),
         ("text", "cover") => read_covered(alloc, first, second, rest),
         _ => Ok(None),
     }
 }
 
-/// What `text compare`, two names and some words ask for.
-fn read_compared<'a>(old: &'a str, new: &'a str, rest: &[String]) -> Option<Request<'a>>
-    ensures { MatchOption result (IsBad (text_words (codes "compare") old.now new.now (texts rest.now)))
-        (λ request. HasForm (text_words (codes "compare") old.now new.now (texts rest.now))
-        (form_of request)) }
+/// What the words for a comparison, two names and some words ask for.
+fn read_compared<'a>(
+    medium: Medium,
+    first: &'a str,
+    second: &'a str,
+    rest: &'a [String],
+) -> Option<Request<'a>>
+    ensures { let words = behind_compare (medium_of medium) (first.now ∷ second.now ∷ texts rest.now) in
+        MatchOption result (IsBad words) (λ request. HasForm words (form_of request)) }
 {
-    if rest.is_empty() {
-        Some(Request::Compare { old, new })
-    } else {
-        None
+    let plans = read_plans(first, second, rest)?;
+    Some(Request::Compare { medium, plans })
+}
+
+/// The files that are compared, by their names. `None` where they are neither two nor four.
+fn read_plans<'a>(first: &'a str, second: &'a str, rest: &'a [String]) -> Option<NamedPlans<'a>>
+    ensures { let names = first.now ∷ second.now ∷ texts rest.now in
+        MatchOption result ((plans : Plans) → ¬ (names ≡ plan_names plans))
+        (λ found. names ≡ plan_names (plans_of found)) }
+{
+    match rest {
+        [] => Some(NamedPlans::TwoPlans {
+            old: first,
+            new: second,
+        }),
+        [third, fourth] => Some(NamedPlans::WithLimits {
+            old: first,
+            old_limits: second,
+            new: third.as_str(),
+            new_limits: fourth.as_str(),
+        }),
+        _ => None,
     }
 }
 

@@ -14,7 +14,8 @@ use std::process::ExitCode;
 const USAGE: &str =
     "usage: pap_author chart PLAN | pap_author chart PLAN LIMITS | pap_author ranges PLAN | \
     pap_author trace PLAN LIMITS NAME=VALUE .. | pap_author example PLAN LIMITS | pap_author lint PLAN LIMITS | \
-    pap_author text compare OLD NEW | \
+    pap_author compare OLD NEW | pap_author compare OLD OLD_LIMITS NEW NEW_LIMITS | \
+    pap_author text compare OLD NEW | pap_author text compare OLD OLD_LIMITS NEW NEW_LIMITS | \
     pap_author text trace PLAN LIMITS NAME=VALUE .. | \
     pap_author text cover PLAN LIMITS TABLE | pap_author text cover PLAN LIMITS TABLE --at-least N";
 
@@ -44,8 +45,13 @@ usage:
                                    all, or that neither was found
   pap_author lint PLAN LIMITS      write a line for each thing that the flowchart has in vain: statements that no run executes, tests
                                    that always answer the same, names that nothing reads or assigns
-  pap_author text compare OLD NEW  write what the flowchart NEW changed against OLD: declarations with their values, and method
-                                   by method the statements; each line begins with = the same, ~ changed, + new or - gone
+  pap_author compare OLD NEW       write a page of what the flowchart NEW changed against OLD: declarations with their values, and
+                                   method by method the statements; each row says whether it is the same, changed, new or gone
+  pap_author compare OLD OLD_LIMITS NEW NEW_LIMITS
+                                   the same, and what the range file NEW_LIMITS changed against OLD_LIMITS
+  pap_author text compare OLD NEW  write this as a text: each line begins with = the same, ~ changed, + new or - gone
+  pap_author text compare OLD OLD_LIMITS NEW NEW_LIMITS
+                                   the same with the range files
   pap_author text trace PLAN LIMITS NAME=VALUE ..
                                    write the run on these inputs: its inputs and outputs, and each statement that it executes,
                                    with its place, its line in PLAN, what it puts or answers, and the values that it reads
@@ -57,21 +63,22 @@ usage:
   pap_author --help                write this text
   pap_author --version             write the program's version
 
-PLAN, OLD and NEW are files of flowcharts in the ministry's pseudocode (XML), LIMITS a range file (TOML), TABLE pay runs
-(CSV) as a script's line `load` takes them. The page stands alone: it has no script and fetches nothing. Open it in a browser,
+PLAN, OLD and NEW are files of flowcharts in the ministry's pseudocode (XML), LIMITS, OLD_LIMITS and NEW_LIMITS range files
+(TOML), TABLE pay runs (CSV) as a script's line `load` takes them. The page stands alone: it has no script and fetches nothing. Open it in a browser,
 or print it from there.
 
 Where the plan is refused, a line on standard error says in plain words what is wrong, where it is in the file, and what
 helps. `chart` writes the page all the same, with the reason in it; that of a file that can't be read as a flowchart has no
 drawing. `ranges` doesn't judge the flowchart: only of a file that can't be read as one the line of its refusal is written,
 in place of the range file. `compare` doesn't judge its flowcharts either: the line of the first file that can't be read as
-one is written in place of the text. `trace` fills inputs that aren't given as `papcalc once` does. Of a refused plan or a run
+one is written in place of the text or the page, and with range files the line of the first pair that `papcalc check` refuses
+for another reason than the ranges of its values. `trace` fills inputs that aren't given as `papcalc once` does. Of a refused plan or a run
 without inputs its page says why, and its text has the line that `papcalc once` writes. Of a flowchart or a range file that is
 refused for another reason than the ranges of its values, `example` writes the line that `papcalc check` writes. So do `lint`
 and `cover` of each that is refused; of a refused table `cover` writes the line that `load` writes.
 
-It ends with 0 where all was written, 1 where that is of a refused plan, of a run without inputs, of two flowcharts that
-differ, of inputs that fail or weren't found, of findings, of a refused table, or of a share below N, 2 where the words are
+It ends with 0 where all was written, 1 where that is of a refused plan, of a run without inputs, of two flowcharts or
+range files that differ, of inputs that fail or weren't found, of findings, of a refused table, or of a share below N, 2 where the words are
 none of these, 3 where a file can't be read, 5 where the output can't be written, 6 where memory runs out.";
 
 /// The words after the program's name.

@@ -1,5 +1,5 @@
-use Rattle.std.proofs.Common.{Some, subst}
-use Rattle.author_cli.specs.Answers.{IsChart, file_of}
+use Rattle.std.proofs.Common.{subst}
+use Rattle.author_cli.specs.Answers.{IsChartWithin, file_of}
 use Rattle.author_cli.specs.private.AnswerViews.{answer_of}
 use Rattle.author_cli.proofs.FrontLemmas.{chart_within_of}
 use Rattle.author_cli.proofs.answer.answer_chart_within.Goals as goal
@@ -10,11 +10,11 @@ returns-clause-made g c =
     let limits = c.args.limits.now in
     let bytes = c.in_ok-plan_bytes.plan_bytes.items in
     let bytes' = c.in_ok-plan_bytes.limits_bytes.items in
-    let page = answer_of c.in_ok-page_of.field-0 in
+    let page = answer_of c.in_ok-chart_within.field-0 in
     let second = c.deref-2.result.now in
-    let of_plan = subst (λ b. IsChart (file_of plan b) (Some (file_of limits second)) page)
-    c.deref.ensures.value c.in_ok-page_of.ensures in
-    let of_both = subst (λ b. IsChart (file_of plan bytes) (Some (file_of limits b)) page)
+    let of_plan = subst (λ b. IsChartWithin (file_of plan b) (file_of limits second) page)
+    c.deref.ensures.value c.in_ok-chart_within.ensures in
+    let of_both = subst (λ b. IsChartWithin (file_of plan bytes) (file_of limits b) page)
     c.deref-2.ensures.value of_plan in
     let read = c.in_ok-plan_bytes.ensures.read in (
       λ files told. chart_within_of files plan limits bytes bytes' page (read files told) of_both,
