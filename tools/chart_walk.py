@@ -76,7 +76,9 @@ class Drawing:
         kind = (text.get("class") or " ").split(" ")[0]
         if kind in ("y", "e"):
             away = STEP_TO_WORD if kind == "y" else -STEP_TO_WORD
-            self.words.setdefault(int(text.get("y")), []).append((int(text.get("x")) - away, text.text))
+            words = [word for word in text.text.split(" ") if word != "never"]
+            if words:
+                self.words.setdefault(int(text.get("y")), []).append((int(text.get("x")) - away, " ".join(words)))
 
     def take_lines(self, data):
         for x, y, way, end in re.findall(r"M(%s) (%s)([VH])(%s)" % ((NUMBER,) * 3), data):
