@@ -34,23 +34,28 @@ _pap_author() {
     local word=${COMP_WORDS[COMP_CWORD]} command=${COMP_WORDS[1]}
     COMPREPLY=()
     if [ "$COMP_CWORD" -eq 1 ]; then
-        COMPREPLY=($(compgen -W 'chart ranges trace example lint text --help --version' -- "$word"))
+        COMPREPLY=($(compgen -W 'chart ranges trace example lint compare text --help --version' -- "$word"))
         return
     fi
     case $command:$COMP_CWORD in
         chart:2 | ranges:2 | trace:2 | example:2 | lint:2) _papcalc_files xml "$word" ;;
         chart:3 | trace:3 | example:3 | lint:3) _papcalc_files toml "$word" ;;
         trace:*) _papcalc_inputs "${COMP_WORDS[2]}" "$word" ;;
+        compare:2 | compare:4) _papcalc_files xml "$word" ;;
+        compare:3) _papcalc_files '[tx]*ml' "$word" ;;
+        compare:5) _papcalc_files toml "$word" ;;
         text:2) COMPREPLY=($(compgen -W 'compare trace cover' -- "$word")) ;;
         text:3) _papcalc_files xml "$word" ;;
         text:4)
             case ${COMP_WORDS[2]} in
-                compare) _papcalc_files xml "$word" ;;
+                compare) _papcalc_files '[tx]*ml' "$word" ;;
                 trace | cover) _papcalc_files toml "$word" ;;
             esac ;;
         text:*)
             case ${COMP_WORDS[2]}:$COMP_CWORD in
                 trace:*) _papcalc_inputs "${COMP_WORDS[3]}" "$word" ;;
+                compare:5) _papcalc_files xml "$word" ;;
+                compare:6) _papcalc_files toml "$word" ;;
                 cover:5) _papcalc_files csv "$word" ;;
                 cover:6) COMPREPLY=($(compgen -W '--at-least' -- "$word")) ;;
             esac ;;
