@@ -125,10 +125,7 @@ pub fn draw_ranged(
 {
     let verdict = judge(alloc, plan, Some(limits))?;
     let part = Page::new(alloc);
-    let shown = RunShown {
-        part: &part,
-        marks,
-    };
+    let shown = RunShown { part: &part, marks };
     let page = draw_judged(alloc, plan, Some(limits), &verdict, Some(shown))?;
     Ok(Chart {
         page,
