@@ -328,10 +328,13 @@ module _ (n m : ℕ) (more_plan : 1048576 < n) (more_limits : 262144 < m) where
   within_front : (plan limits : NamedText) (a : Answer) → IsChartWithin (front n plan) (front m limits) a
       → IsChartWithin plan limits a
   within_front plan limits a (inl h) = inl (charted_front plan limits a h)
-  within_front plan limits a (inr h) = inr (h.0, record {
-    refused = refused_front plan.bytes limits.bytes h.0 h.1.refused;
-    is_chart = chart_front plan limits a h.1.is_chart;
-  })
+  within_front plan limits a (inr h) = inr (
+    h.0,
+    record {
+      refused = refused_front plan.bytes limits.bytes h.0 h.1.refused;
+      is_chart = chart_front plan limits a h.1.is_chart;
+    },
+  )
 
   traced_front : (values : List NamedValue) (plan limits : NamedText) (text : List ℕ) (reason : Option (List ℕ))
       → IsTraced values (front n plan) (front m limits) text reason → IsTraced values plan limits text reason
