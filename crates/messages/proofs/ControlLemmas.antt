@@ -10,7 +10,8 @@ use Rattle.messages.specs.declared.message.Message.{Message}
 use Rattle.messages.specs.declared.message.Position.{Position}
 use Rattle.messages.specs.declared.message.Site.{Site}
 use Rattle.messages.specs.Json.{json_string, string_byte}
-use Rattle.messages.specs.Objects.{HasSmallNumbers, IsSmallPosition, cause_fields, further_fields, json_text, message_field, number_field, number_field_of, position_fields, site_fields, text_field, text_field_of}
+use Rattle.messages.specs.Fields.{IsSmallPosition}
+use Rattle.messages.specs.Objects.{HasSmallNumbers, cause_fields, further_fields, json_text, message_field, number_field, number_field_of, position_fields, site_fields, text_field, text_field_of}
 
 -- no byte of these is a control character
 abbrev Shows : List ℕ → Type 0

@@ -1,3 +1,9 @@
+mod SplitLemmas
+mod CutLemmas
+mod FileLemmas
+mod NumberLemmas
+mod ReadingLemmas
+mod OnceLemmas
 mod TurnLemmas
 mod ObjectLemmas
 mod ControlLemmas

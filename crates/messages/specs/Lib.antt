@@ -1,4 +1,5 @@
 pub mod Adapters
+pub mod Fields
 pub mod Json
 pub mod Lines
 pub mod Objects

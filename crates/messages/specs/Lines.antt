@@ -30,7 +30,14 @@ abbrev pub help_text : Option (Bor (List ℕ)) → List ℕ
 help_text None = []
 help_text (Some help) = codes "; " ++ help.now
 
+-- what is wrong, and behind a semicolon what helps
+abbrev pub reason_words : Message → List ℕ
+reason_words message = message.wrong.now ++ help_text message.help
+
+-- the line of a message without the number of a script's line: the place in a file, what is wrong, and what helps
+abbrev pub unnumbered_words : Message → List ℕ
+unnumbered_words message = site_text message.site ++ reason_words message
+
 -- the line of a message: the script's line, the place in a file, what is wrong, and behind a semicolon what helps
 abbrev pub message_words : Message → List ℕ
-message_words message =
-    script_text message.script_line ++ (site_text message.site ++ (message.wrong.now ++ help_text message.help))
+message_words message = script_text message.script_line ++ unnumbered_words message

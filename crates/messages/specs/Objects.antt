@@ -1,11 +1,12 @@
 -- A message as an object of JSON, and lines of words as objects.
-use Rattle.std.specs.Prelude.{◌≡◌, ◌≢◌, ℕ, ◌≤◌, ◌<◌, ◌^◌, List, [], ◌∷◌, ◌++◌, All, Option, None, Some, IfSome, codes}
+use Rattle.std.specs.Prelude.{◌≡◌, ℕ, ◌≤◌, ◌<◌, ◌^◌, List, [], ◌∷◌, ◌++◌, All, Option, None, Some, IfSome, codes, ⊤}
 use Rattle.std.specs.Borrow.{Bor}
 use Rattle.std.specs.Fmt.{decimal}
 use Rattle.std.specs.List.{flat_map}
 use Rattle.messages.specs.declared.message.Message.{Message}
 use Rattle.messages.specs.declared.message.Position.{Position}
 use Rattle.messages.specs.declared.message.Site.{Site}
+use Rattle.messages.specs.Fields.{HasNoRefusal, IsFreeOf, IsReadFrom, IsSmallPosition}
 use Rattle.messages.specs.Json.{json_string}
 use Rattle.messages.specs.Lines.{message_words}
 
@@ -56,11 +57,6 @@ message_field wrong = json_string (codes "message") ++ 0x3A ∷ json_string wron
 abbrev pub json_text : Message → List ℕ
 json_text message = 0x7B ∷ (message_field message.wrong.now ++ (further_fields message ++ 0x7D ∷ []))
 
--- the numbers of a place have at most 64 bits, as all of the programs have
-pub record IsSmallPosition (at : Position) : Type 0 where
-  pub line : at.line < 2 ^ 64
-  pub column : at.column < 2 ^ 64
-
 -- the numbers of a message have at most 64 bits
 pub record HasSmallNumbers (message : Message) : Type 0 where
   pub site : IfSome message.site (λ site. IfSome site.at IsSmallPosition)
@@ -80,14 +76,27 @@ message_line message = message_words message ++ 10 ∷ []
 abbrev pub object_line : Message → List ℕ
 object_line message = json_text message ++ 10 ∷ []
 
--- behind the last line of these words there is no line end more
+-- no line end stands in these words
 abbrev pub IsUnended : List ℕ → Type 0
-IsUnended rest = (front back : List ℕ) → rest ≢ front ++ (10 ∷ back)
+IsUnended words = IsFreeOf words (10 ∷ [])
 
--- these are the objects, a line each, of the messages whose lines these words have; a rest without a line end is no message
-pub record AreObjects (words objects : List ℕ) : Type 0 where
+-- a message is read from one line of words, where these files are known
+pub record IsOfOneLine (files : List (List ℕ)) (message : Message) : Type 0 where
+  pub unended : IsUnended (message_words message)
+  pub read : IsReadFrom files (message_words message) message
+
+-- of some messages the first alone has the code and the place of a refusal
+abbrev pub HasFirstRefusal : List Message → Type 0
+HasFirstRefusal [] = ⊤
+HasFirstRefusal (first ∷ further) = All HasNoRefusal further
+
+-- these are the objects, a line each, of the messages that are read from the lines of these words, where these files are known; a rest
+-- without a line end isn't a message
+pub record AreObjects (files : List (List ℕ)) (words objects : List ℕ) : Type 0 where
   pub messages : List Message
   pub rest : List ℕ
   pub unended : IsUnended rest
+  pub read : All (IsOfOneLine files) messages
+  pub refusal : HasFirstRefusal messages
   pub lines : words ≡ flat_map message_line messages ++ rest
   pub are : objects ≡ flat_map object_line messages

@@ -2,8 +2,9 @@
 ghost use Rattle.std.specs.Prelude.{◌≡◌, ◌<◌, ◌≤◌, ◌+◌, length, None, IfOk, IfSome, OnOk};
 ghost use Rattle.outside.specs.Causes.{HasCause};
 ghost use Rattle.outside.specs.Told.{WriteAppends};
+ghost use Rattle.messages.specs.Fields.{file_names};
 ghost use Rattle.messages.specs.Objects.{AreObjects};
-ghost use Rattle.messages.specs.Adapters.{message_faults, message_form, sink_below, PutsObjects};
+ghost use Rattle.messages.specs.Adapters.{message_faults, message_files, message_form, sink_below, PutsObjects};
 
 use crate::answer_sink::LastRefusal;
 use crate::form::MessageForm;
@@ -35,6 +36,7 @@ impl<'a, S: Sink + Drop> MessageSink<'a, S> {
     ) -> Self
         ensures sink { sink_below result ≡ inner }
         ensures form { message_form result ≡ form }
+        ensures files { message_files result ≡ file_names files.now }
     {
         MessageSink {
             inner,
@@ -71,7 +73,8 @@ impl<'a, S: Sink + Drop> MessageSink<'a, S> {
 
     /// The objects of some lines, the first with the code of the last refusal.
     fn objects(&self, lines: &[u8]) -> Result<Vec<u8>, AllocError>
-        ensures { IfOk result (λ objects. AreObjects lines.now objects.items) }
+        ensures { IfOk result (λ objects. AreObjects (message_files self.now)
+            lines.now objects.items) }
     {
         let Ok(text) = str::from_utf8(lines) else {
             return Err(AllocError);
@@ -87,8 +90,9 @@ impl<'a, S: Sink + Drop> MessageSink<'a, S> {
     /// Puts lines as objects. A fault is counted where memory is lacking, or the lines aren't UTF-8.
     fn put_objects(&mut self, lines: &[u8]) -> Result<(), Failed>
         ensures form { message_form self.new ≡ message_form self.old }
+        ensures files { message_files self.new ≡ message_files self.old }
         ensures cause { HasCause (message_faults S.Sink self.old) (message_faults S.Sink self.new) result }
-        ensures objects { OnOk result (PutsObjects lines.now
+        ensures objects { OnOk result (PutsObjects (message_files self.old) lines.now
             (S.written (sink_below self.old)) (S.written (sink_below self.new))) }
     {
         match self.objects(lines) {
@@ -114,9 +118,11 @@ impl<S: Sink + Drop> Sink for MessageSink<'_, S> {
 
         // As words a piece goes out as it is, as JSON in whole objects.
         ensures form { message_form self.new ≡ message_form self.old }
+        ensures files { message_files self.new ≡ message_files self.old }
         ensures words { message_form self.old ≡ MessageForm.Words → WriteAppends
             (S.written (sink_below self.old)) (S.written (sink_below self.new)) result piece.now }
-        ensures objects { message_form self.old ≡ MessageForm.Json → OnOk result (PutsObjects piece.now
+        ensures objects { message_form self.old ≡ MessageForm.Json → OnOk result
+            (PutsObjects (message_files self.old) piece.now
             (S.written (sink_below self.old)) (S.written (sink_below self.new))) }
     {
         match self.form {

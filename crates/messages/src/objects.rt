@@ -1,12 +1,13 @@
 //! Lines of words as objects of JSON, one a line.
-ghost use Rattle.std.specs.Prelude.{IfOk, OnOk};
+ghost use Rattle.std.specs.Prelude.{◌≡◌, IfOk, OnOk};
+ghost use Rattle.messages.specs.Fields.{file_names};
 ghost use Rattle.messages.specs.Objects.{AreObjects};
 ghost use Rattle.messages.specs.private.ObjectViews.{PutsLines, PutsObject};
 
 use crate::cut::{behind, cut};
 use crate::json::push_json;
 use crate::message::Message;
-use crate::reading::read_message;
+use crate::reading::message_of;
 use std::alloc::{AllocError, Global};
 
 /// What an answer says of a refusal: its group and its name, and the node of the flowchart, where it has one.
@@ -18,7 +19,10 @@ pub(crate) struct Refusal<'a> {
 
 impl<'a> Refusal<'a> {
     /// No refusal was answered.
-    pub(crate) fn none() -> Refusal<'a> {
+    pub(crate) fn none() -> Refusal<'a>
+        ensures code { result.code ≡ None }
+        ensures place { result.place ≡ None }
+    {
         Refusal {
             code: None,
             place: None,
@@ -51,7 +55,7 @@ pub(crate) fn objects_of(
     refusal: Refusal<'_>,
     text: &str,
 ) -> Result<Vec<u8>, AllocError>
-    ensures { IfOk result (λ objects. AreObjects text.now objects.items) }
+    ensures { IfOk result (λ objects. AreObjects (file_names files.now) text.now objects.items) }
 {
     let mut objects = Vec::new(alloc);
     let Some((line, rest)) = cut(text, "\n") else {
@@ -64,7 +68,8 @@ pub(crate) fn objects_of(
 
 /// Appends lines of words as objects, each with its line end.
 fn push_objects(objects: &mut Vec<u8>, files: &[String], text: &str) -> Result<(), AllocError>
-    ensures { OnOk result (PutsLines text.now objects.old.items objects.new.items) }
+    ensures { OnOk result (PutsLines (file_names files.now)
+        text.now objects.old.items objects.new.items) }
 {
     let mut rest = text;
     while let Some((line, next)) = cut(rest, "\n") {
@@ -81,15 +86,15 @@ pub(crate) fn push_object(
     refusal: Refusal<'_>,
     words: &str,
 ) -> Result<(), AllocError>
-    ensures { OnOk result (PutsObject words.now objects.old.items objects.new.items) }
+    ensures { OnOk result (PutsObject (file_names files.now) refusal.entry
+        words.now objects.old.items objects.new.items) }
 {
-    let message = read_message(*objects.allocator(), words, files)?;
-    let coded = Message {
+    let message = Message {
         code: refusal.code,
         place: refusal.place,
-        ..message
+        ..message_of(words, files)
     };
-    push_json(objects, &coded)?;
+    push_json(objects, &message)?;
     objects.push(b'\n')?;
     Ok(())
 }

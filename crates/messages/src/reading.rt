@@ -1,125 +1,137 @@
 //! The fields of a message, cut out of its line.
-ghost use Rattle.std.specs.Prelude.{◌≡◌, ◌<◌, ◌+◌, ◌++◌, ◌==◌, if◌then◌else◌, not, codes, drop, length, IfOk, IfSome, IsTrue, MatchOption};
+ghost use Rattle.std.specs.Prelude.{◌≡◌, ◌<◌, ◌+◌, ◌++◌, ◌==◌, if◌then◌else◌, not, codes, drop, length, IsTrue, MatchOption};
 ghost use Rattle.std.specs.Fmt.{decimal};
-ghost use Rattle.messages.specs.Lines.{help_text, message_words, position_of, script_text, site_text};
+ghost use Rattle.messages.specs.Fields.{file_names, HasNoPlace, HasNoRefusal, HaveOneReading, IsReadFrom};
+ghost use Rattle.messages.specs.Lines.{help_text};
 ghost use Rattle.messages.specs.Turns.{HasNoTurn, IsCutAtTurn, IsFirstTurn};
+ghost use Rattle.messages.specs.private.Cuts.{has_name, HasNoNumber, HasNoPosition, IsNumberCut, IsPlain, IsPlaceCut, IsPositionCut};
+ghost use Rattle.messages.specs.private.Cuts.{IsScriptCut, IsSiteCut, WriteNoNumber};
 
 use crate::cut::{behind, cut};
 use crate::message::{Message, Position, Site};
-use std::alloc::{AllocError, Global};
 
 /// The message of a line: `stdin:NUMBER: ` where it is of a line of a script, `FILE:LINE:COLUMN: ` where it is of a place in a file, or
 /// `FILE: ` where it is of one of these files as a whole, what is wrong, and behind the first `; ` outside of backticks what helps. Put
 /// together, the fields are the line. It has no code and no place of a node.
-pub fn read_message<'a>(
-    alloc: Global,
-    line: &'a str,
-    files: &[String],
-) -> Result<Message<'a>, AllocError>
-    ensures line { IfOk result (λ message. line.now ≡ message_words message) }
-    ensures help { IfOk result (λ message. IsCutAtTurn message.wrong.now message.help) }
+pub fn message_of<'a>(line: &'a str, files: &[String]) -> Message<'a>
+    ensures read { IsReadFrom (file_names files.now) line.now result }
+    ensures refusal { HasNoRefusal result }
 {
-    let (script_line, told) = read_script_line(alloc, line)?;
-    let (site, reason) = read_site(alloc, told, files)?;
+    let (script_line, told) = read_script_line(line);
+    let (site, reason) = read_site(told, files);
     let (wrong, help) = split_help(reason);
-    Ok(Message {
+    Message {
         wrong,
         help,
         site,
         script_line,
         code: None,
         place: None,
-    })
+    }
 }
 
 /// The number of a script's line, where these words begin with one, and what stands behind it.
-fn read_script_line<'a>(alloc: Global, line: &'a str) -> Result<(Option<u64>, &'a str), AllocError>
-    ensures { IfOk result (λ both. line.now ≡ script_text both.0 ++ both.1.now) }
+fn read_script_line<'a>(line: &'a str) -> (Option<u64>, &'a str)
+    ensures { IsScriptCut line.now result.0 result.1.now }
 {
     let Some(numbered) = behind(line, "stdin:") else {
-        return Ok((None, line));
+        return (None, line);
     };
-    let Some((digits, told)) = cut(numbered, ": ") else {
-        return Ok((None, line));
-    };
-    match read_number(alloc, digits)? {
-        Some(number) => Ok((Some(number), told)),
-        None => Ok((None, line)),
+    match read_number_to(numbered, ": ") {
+        Some((number, told)) => (Some(number), told),
+        None => (None, line),
     }
 }
 
 /// The file and the place in it, where these words begin with one, and what stands behind them.
-fn read_site<'a>(
-    alloc: Global,
-    told: &'a str,
-    files: &[String],
-) -> Result<(Option<Site<'a>>, &'a str), AllocError>
-    ensures { IfOk result (λ both. told.now ≡ site_text both.0 ++ both.1.now) }
+fn read_site<'a>(told: &'a str, files: &[String]) -> (Option<Site<'a>>, &'a str)
+    ensures { IsSiteCut (file_names files.now) told.now result.0 result.1.now }
 {
-    let Some((file, rest)) = cut(told, ":") else {
-        return Ok((None, told));
-    };
-    match read_position(alloc, rest)? {
-        Some((position, reason)) => {
-            let site = Site {
-                file,
-                at: Some(position),
-            };
-            Ok((Some(site), reason))
-        }
-        None => Ok(read_file(told, files)),
+    match read_place(told) {
+        Some((site, reason)) => (Some(site), reason),
+        None => read_file(told, files),
     }
 }
 
-/// A line, a column and what stands behind them, where these words begin so.
-fn read_position<'a>(
-    alloc: Global,
-    text: &'a str,
-) -> Result<Option<(Position, &'a str)>, AllocError>
-    ensures { IfOk result (λ found. IfSome found
-        (λ both. text.now ≡ position_of both.0 ++ both.1.now)) }
+/// A place in a file, where these words begin with one, and what stands behind it.
+fn read_place<'a>(told: &'a str) -> Option<(Site<'a>, &'a str)>
+    ensures { MatchOption result (HasNoPlace told.now)
+        (λ both. IsPlaceCut told.now both.0 both.1.now) }
 {
-    let Some((line, rest)) = cut(text, ":") else {
-        return Ok(None);
+    let (file, rest) = cut(told, ":")?;
+    let (position, reason) = read_position(rest)?;
+    let site = Site {
+        file,
+        at: Some(position),
     };
-    let Some((column, reason)) = cut(rest, ": ") else {
-        return Ok(None);
-    };
-    let Some(line) = read_number(alloc, line)? else {
-        return Ok(None);
-    };
-    let Some(column) = read_number(alloc, column)? else {
-        return Ok(None);
-    };
-    Ok(Some((Position { line, column }, reason)))
+    Some((site, reason))
 }
 
-/// One of these files, where the words begin with its name, and what stands behind it.
+/// A line, a column and what stands behind them, where these words begin so.
+fn read_position<'a>(text: &'a str) -> Option<(Position, &'a str)>
+    ensures { MatchOption result (HasNoPosition text.now)
+        (λ both. IsPositionCut text.now both.0 both.1.now) }
+{
+    let (line, rest) = read_number_to(text, ":")?;
+    let (column, reason) = read_number_to(rest, ": ")?;
+    Some((Position { line, column }, reason))
+}
+
+/// One of these files, where words without a place in a file begin with its name, and what stands behind it.
 fn read_file<'a>(told: &'a str, files: &[String]) -> (Option<Site<'a>>, &'a str)
-    ensures { told.now ≡ site_text result.0 ++ result.1.now }
+    requires { HasNoPlace told.now }
+    ensures { IsSiteCut (file_names files.now) told.now result.0 result.1.now }
 {
     let Some((file, reason)) = cut(told, ": ") else {
         return (None, told);
     };
-    if files.iter().any(|name| name.as_str() == file) {
+    if is_one_of(file, files) {
         (Some(Site { file, at: None }), reason)
     } else {
         (None, told)
     }
 }
 
+/// Whether this is the name of one of these files.
+fn is_one_of(file: &str, files: &[String]) -> bool
+    ensures { result ≡ has_name files.now file.now }
+{
+    files.iter().any(|name| name.as_str() == file)
+}
+
+/// The number up to this mark, which begins with a colon, where the words begin so, and what stands behind the mark.
+fn read_number_to<'a>(text: &'a str, mark: &str) -> Option<(u64, &'a str)>
+    requires { mark.now ≡ codes ":" ++ drop 1 mark.now }
+    ensures { MatchOption result (HasNoNumber mark.now text.now)
+        (λ both. IsNumberCut mark.now text.now both.0 both.1.now) }
+{
+    let (digits, rest) = cut(text, mark)?;
+    let number = read_number(digits)?;
+    Some((number, rest))
+}
+
 /// The number that these digits write, as the programs write numbers.
-fn read_number(alloc: Global, digits: &str) -> Result<Option<u64>, AllocError>
-    ensures { IfOk result (λ found. IfSome found (λ number. digits.now ≡ decimal number)) }
+fn read_number(digits: &str) -> Option<u64>
+    ensures { MatchOption result (WriteNoNumber digits.now) (λ number. digits.now ≡ decimal number) }
 {
     let Ok(number) = digits.parse::<u64>() else {
-        return Ok(None);
+        return None;
     };
-    let written = format!(in alloc; "{number}")?;
-    if written.as_str() == digits {
-        Ok(Some(number))
+    if is_plain(digits.as_bytes()) {
+        Some(number)
     } else {
-        Ok(None)
+        None
+    }
+}
+
+/// Whether no plus sign stands before the digits, and no zero before others.
+fn is_plain(digits: &[u8]) -> bool
+    ensures plain { IsTrue result → IsPlain digits.now }
+    ensures alone { IsPlain digits.now → IsTrue result }
+{
+    match digits.first() {
+        Some(first) => *first != b'+' && (*first != b'0' || digits.len() == 1),
+        None => true,
     }
 }
 
@@ -167,3 +179,8 @@ fn is_quoted_behind(quoted: bool, byte: u8) -> bool
 {
     if byte == b'`' { !quoted } else { quoted }
 }
+
+/// The law of a message's fields: all messages that are read from one line have the same.
+pub fn reading_laws()
+    ensures once { HaveOneReading }
+{}
