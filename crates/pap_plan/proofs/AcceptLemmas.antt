@@ -14,9 +14,8 @@ use Rattle.call_order.specs.Orders.{IsOrdered}
 use Rattle.interval_walk.specs.Admission.{HasLimit, HaveLimits}
 use Rattle.pap_plan.specs.declared.refusal.PlanRefusal.{PlanRefusal}
 use Rattle.pap_plan.specs.declared.refusal.PlanRefusal.TheVariants as refusals
-use Rattle.pap_plan.specs.Bindings.{HasSuitedLimit}
+use Rattle.pap_plan.specs.Bindings.{HasSuitedLimit, AreMatched}
 use Rattle.pap_plan.specs.Acceptance.{IsTypedPlan, IsOrderedPlan, HasBindings}
-use Rattle.pap_plan.specs.private.AcceptanceClauses.{AreMatched}
 use Rattle.pap_plan.specs.private.JudgedViews.{HasNoVerdict, IsMisjudged}
 use Rattle.pap_plan.proofs.LimitLemmas.{found_sound}
 

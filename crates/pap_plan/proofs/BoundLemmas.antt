@@ -10,7 +10,8 @@ use Rattle.pap_plan.specs.declared.refusal.PlanRefusal.{PlanRefusal}
 use Rattle.pap_plan.specs.declared.refusal.PlanRefusal.TheVariants as refusals
 use Rattle.pap_plan.specs.BoundPlans.{IsBeforeRanges, IsUnboundOrMemory}
 use Rattle.pap_plan.specs.StageRefusals.{order_refusal, limits_refusal}
-use Rattle.pap_plan.specs.private.AcceptanceClauses.{IsUntyped, IsUnmatched}
+use Rattle.pap_plan.specs.Bindings.{IsUnmatched}
+use Rattle.pap_plan.specs.private.AcceptanceClauses.{IsUntyped}
 use Rattle.pap_plan.specs.private.JudgedViews.{HasNoVerdict}
 
 pub order_early : (e : OrderFault) → IsBeforeRanges (order_refusal e)

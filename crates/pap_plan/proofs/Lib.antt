@@ -6,6 +6,7 @@ mod BoundLemmas
 mod CountLemmas
 mod HeldLemmas
 pub mod Laws
+mod LimitFaultLemmas
 mod LimitLemmas
 mod LiteralLemmas
 mod MeaningLemmas

@@ -1,5 +1,5 @@
 -- Whether the limits and bindings of a range file are those of a plan.
-use Rattle.std.specs.Prelude.{◌≡◌, ℕ, Bool, true, not, ◌&&◌, is_some, List, ◌∷◌, ◌++◌, All, Option, Some}
+use Rattle.std.specs.Prelude.{◌≡◌, ℕ, Bool, true, not, ◌&&◌, is_some, List, ◌∷◌, ◌++◌, All, Option, Some, None}
 use Rattle.std.specs.List.{find}
 use Rattle.std.specs.Option.{option_map, option_or}
 use Rattle.pap_tree.specs.Declarations.{Declaration}
@@ -13,6 +13,8 @@ use Rattle.pap_types.specs.Scopes.{names_of}
 use Rattle.pap_types.specs.Checks.{has_name}
 use Rattle.limits_file.specs.Limits.{limit_named}
 use Rattle.interval_walk.specs.Admission.{SuitsLimit}
+use Rattle.pap_plan.specs.declared.refusal.PlanRefusal.{PlanRefusal}
+use Rattle.pap_plan.specs.declared.refusal.PlanRefusal.TheVariants as refusals
 
 -- ---- names
 
@@ -73,3 +75,19 @@ is_bound f l b = has_limit l b.input && carries_output f b.carry
 -- the input of the first binding, in order of these names, whose input has no limit or whose output isn't declared
 abbrev pub unbound_input : Flowchart → Limits → Option (List ℕ)
 unbound_input f l = option_map (λ b. b.input) (find (λ b. not (is_bound f l b)) l.bindings)
+
+-- ---- all of these
+
+-- the limits and bindings are those of the plan
+pub record AreMatched (f : Flowchart) (l : Limits) : Type 0 where
+  pub names : unmatched_name f l ≡ None
+  pub suited : All (HasSuitedLimit l) f.inputs
+  pub bound : unbound_input f l ≡ None
+
+-- limits and bindings that aren't those of the plan are refused so, for the first name at which they aren't
+abbrev pub IsUnmatched : Flowchart → Limits → PlanRefusal → Type 0
+IsUnmatched f l (refusals.LimitName name) = unmatched_name f l ≡ Some name
+IsUnmatched f l (refusals.LimitKind name) = (unmatched_name f l ≡ None) × IsFirstUnsuited f l name
+IsUnmatched f l (refusals.Bind name) =
+    (unmatched_name f l ≡ None) × All (HasSuitedLimit l) f.inputs × (unbound_input f l ≡ Some name)
+IsUnmatched f l _ = ⊥

@@ -9,7 +9,8 @@ ghost use Rattle.pap_plan.specs.Acceptance.{IsTypedPlan, IsRefusedOrMemory};
 ghost use Rattle.std.specs.List.{All};
 ghost use Rattle.limits_file.specs.Limits.{HasSoundBounds};
 ghost use Rattle.pap_plan.specs.AcceptanceClauses.{IsAcceptedAs, IsUnreadPlan};
-ghost use Rattle.pap_plan.specs.private.AcceptanceClauses.{IsUntyped, AreMatched, IsUnmatched};
+ghost use Rattle.pap_plan.specs.Bindings.{AreMatched, IsUnmatched};
+ghost use Rattle.pap_plan.specs.private.AcceptanceClauses.{IsUntyped};
 ghost use Rattle.pap_plan.specs.private.JudgedViews.{IsJudged, IsMisjudged, HasVerdict, HasNoVerdict};
 ghost use Rattle.pap_plan.specs.AcceptanceLaws.{HaveAnAnswer, HaveOneAnswer, AcceptedPlansNeverFail, BoundsAreSmall, JudgedPlansAreRead, JudgedPlansAreRefusedByRows, OrderedPlansCanBeWalked, RangesAreNamed};
 

@@ -12,7 +12,8 @@ use pap_tree::{Declared, Kind, Name, PlanText};
 use pap_types::{FACTOR_PLACES, has_few_places};
 use scaled_decimal::{is_int, is_long};
 
-fn declares(declared: &[Declared], name: &Name) -> bool
+/// Whether one of these declarations has the name.
+pub(crate) fn declares(declared: &[Declared], name: &Name) -> bool
     ensures { result ≡ declares declared.now name.now }
 {
     declared.iter().any(|declaration| *name == declaration.name)
@@ -68,8 +69,9 @@ fn is_bound(plan: &PlanText, ranges: &Limits, binding: &Binding) -> bool
     ranges.limit_of(&binding.input).is_some() && carries_output(plan, &binding.carry)
 }
 
+/// Whether the output that is carried over, where there is one, is one of the plan.
 #[tactic(auto, using(crate::proofs::BindingLemmas::declared_names))]
-fn carries_output(plan: &PlanText, carry: &Carry) -> bool
+pub(crate) fn carries_output(plan: &PlanText, carry: &Carry) -> bool
     ensures { result ≡ carries_output (flowchart_of plan.now) carry.now }
 {
     match carry {
@@ -102,7 +104,7 @@ fn has_suited_limit(input: &Declared, ranges: &Limits) -> bool
 
 /// Whether a limit suits an input of a type: a whole number's has no places and bounds within its bits, a `double`'s has at
 /// most three places, in its bounds too.
-fn suits(kind: Kind, limit: &InputLimit) -> bool
+pub(crate) fn suits(kind: Kind, limit: &InputLimit) -> bool
     ensures { IsTrue result ↔ SuitsLimit kind limit.now }
 {
     match kind {

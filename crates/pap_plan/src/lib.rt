@@ -7,9 +7,11 @@ mod bound;
 mod inputs;
 mod plan;
 mod refusal;
+mod unmatched;
 
 pub use acceptance::{accept, acceptance_laws, read_plan};
 pub use bound::{BoundPlan, read_bound};
 pub use plan::Plan;
 pub use plan_text::Spot;
 pub use refusal::PlanRefusal;
+pub use unmatched::{limit_fault_laws, limit_faults};

@@ -14,7 +14,7 @@ use Rattle.pap_tree.specs.Statements.{written}
 use Rattle.pap_types.specs.declared.fault.TypeFault.{TypeFault}
 use Rattle.pap_types.specs.declared.nodes.Statement.{Statement}
 use Rattle.pap_types.specs.declared.statements.Checking.{Checking}
-use Rattle.pap_types.specs.Checks.{Check, first_fault, place}
+use Rattle.pap_types.specs.Checks.{first_fault, place}
 use Rattle.pap_types.specs.Routines.{body_named, method_names}
 use Rattle.pap_types.specs.declared.fault.TypeFault.TheVariants as faults
 use Rattle.pap_types.specs.Counts.{AreSmallTerms}
@@ -40,7 +40,7 @@ small_then (If' t m ys n zs) rest h = ((h.0, h.1, h.2, tt), h.3)
 small_then (Execute x) rest h = (tt, h)
 
 -- lists behind one another
-four : (a b c d : List Check) → a ++ (b ++ (c ++ d)) ≡ (a ++ (b ++ (c ++ []))) ++ d
+pub four : {A : Type 0} (a b c d : List A) → a ++ (b ++ (c ++ d)) ≡ (a ++ (b ++ (c ++ []))) ++ d
 four a b c d =
     ap (λ x. a ++ (b ++ (x ++ d))) (sym (append-nil c))
     ∙ ap (λ x. a ++ x) (sym (append_assoc b (c ++ []) d))

@@ -7,6 +7,9 @@ pub mod StatementLemmas
 pub mod BodyLemmas
 pub mod MethodLemmas
 pub mod NamingLemmas
+pub mod NameFaultLemmas
+pub mod StatementFaultLemmas
+mod FaultLaws
 pub mod BoundLemmas
 pub mod RunLemmas
 mod OutputLemmas

@@ -80,7 +80,7 @@ filled plan names none old before start ms n o b s same v c (Err g) m =
 
 -- ---- the whole plan
 
-whole_checks : (f : Flowchart) → first_fault (checks_of f) ≡ first_fault (name_checks f ++ statement_checks f)
+pub whole_checks : (f : Flowchart) → first_fault (checks_of f) ≡ first_fault (name_checks f ++ statement_checks f)
 whole_checks f =
     ap first_fault (sym (append_assoc (declaration_checks [] (f.inputs ++ (f.outputs ++ (f.internals ++ f.constants)))) (method_checks (main_name ∷ []) f.methods) (statement_checks f)))
 
@@ -93,7 +93,7 @@ as_fault f (faults.ConstantWritten p) h = h
 as_fault f (faults.NoMethod p) h = h
 as_fault f (faults.Value x) h = h
 
-always : (g : TypeFault) (P : Type 0) → P → UnlessMemory g P
+pub always : (g : TypeFault) (P : Type 0) → P → UnlessMemory g P
 always (faults.Memory e) P h = tt
 always (faults.Twice x) P h = h
 always (faults.Unknown x p) P h = h

@@ -6,6 +6,7 @@ pub mod Kinds
 pub mod Routines
 pub mod Checks
 pub mod Faults
+pub mod AllFaults
 pub mod Counts
 pub mod Typing
 pub mod Safety

@@ -1,5 +1,6 @@
 pub mod CheckViews
 pub mod DeclarationViews
+pub mod FaultViews
 pub mod NameViews
 pub mod PlanViews
 pub mod ScopeViews

@@ -7,7 +7,7 @@ ghost use Rattle.pap_types.specs.Checks.{is_of_type};
 ghost use Rattle.pap_tree.specs.Flowchart.{routine_of};
 ghost use Rattle.pap_tree.specs.Names.{main_name};
 ghost use Rattle.pap_types.specs.private.PlanViews.{AreMethodNames};
-ghost use Rattle.pap_types.specs.private.DeclarationViews.{AreDeclared, IsDeclared, IsAdded};
+ghost use Rattle.pap_types.specs.private.DeclarationViews.{AreDeclared, IsDeclared, IsAdded, IsPlaced};
 
 use crate::TypeFault;
 use crate::declared_names::DeclaredNames;
@@ -30,13 +30,15 @@ pub(crate) fn declare(
     Ok(())
 }
 
-fn declare_one(
+/// Adds the name of a declaration behind earlier names, also where its literal isn't of its type.
+pub(crate) fn declare_one(
     names: &mut DeclaredNames,
     earlier: &DeclaredNames,
     declared: &Declared,
 ) -> Result<(), TypeFault>
-    ensures { IsDeclared earlier.now names.old names.new
+    ensures declared { IsDeclared earlier.now names.old names.new
         (declaration_of declared.now) result }
+    ensures placed { IsPlaced earlier.now names.old names.new declared.now.name result }
 {
     let name = declared.name;
     if earlier.contains(&name) {
@@ -71,7 +73,8 @@ pub(crate) fn name_methods(names: &mut DeclaredNames, methods: &[Method]) -> Res
     Ok(())
 }
 
-fn name_method(names: &mut DeclaredNames, name: Name) -> Result<(), TypeFault>
+/// Adds the name of a method, which is new and isn't that of MAIN.
+pub(crate) fn name_method(names: &mut DeclaredNames, name: Name) -> Result<(), TypeFault>
     ensures { IsAdded (main_name ∷ names.old) (main_name ∷ names.new) name result }
 {
     if name == Name::main() {

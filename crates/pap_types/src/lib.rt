@@ -4,6 +4,7 @@
 mod declarations;
 mod declared_names;
 mod fault;
+mod fault_list;
 mod kinds;
 mod limits;
 mod literals;
@@ -16,6 +17,7 @@ mod statements;
 mod typed;
 
 pub use fault::TypeFault;
+pub use fault_list::{type_fault_laws, type_faults};
 pub use kinds::{NodeKind, has_few_places, kind_of_call, kind_of_operator, kind_of_unary};
 pub use limits::LONGEST_CHAIN;
 pub use literals::{FACTOR_PLACES, at_factor_scale, first_value, items_of, shortened};

@@ -28,17 +28,24 @@ pub(crate) struct Names {
 }
 
 impl Names {
+    /// No names of any sort.
+    pub fn new(alloc: Global, hashes: NameHashes) -> Names
+        ensures { AreEmpty result }
+    {
+        Names {
+            variables: DeclaredNames::new(alloc, hashes),
+            constants: DeclaredNames::new(alloc, hashes),
+            methods: DeclaredNames::new(alloc, hashes),
+        }
+    }
+
     /// The names of a plan by number. Each is new and each literal is of its type, or the first that isn't so is
     /// answered.
     pub fn of_plan(alloc: Global, plan: &PlanText) -> Result<Names, TypeFault>
         ensures { IsNamed plan.now result }
     {
         let hashes = NameHashes::of_plan(plan);
-        let mut names = Names {
-            variables: DeclaredNames::new(alloc, hashes),
-            constants: DeclaredNames::new(alloc, hashes),
-            methods: DeclaredNames::new(alloc, hashes),
-        };
+        let mut names = Names::new(alloc, hashes);
         let none = DeclaredNames::new(alloc, hashes);
         names.fill(&none, plan)?;
         Ok(names)

@@ -19,7 +19,7 @@ use pap_tree::{Expr, Kind, Method, Name, Place, Stmt};
 
 impl Statement<'_> {
     /// An assignment: its target is a variable, its nodes pass, and the value suits the target.
-    fn check_eval(&self, target: &Name, value: &Expr) -> Result<(), TypeFault>
+    pub fn check_eval(&self, target: &Name, value: &Expr) -> Result<(), TypeFault>
         requires numbered { HasNumbers self.now }
         requires small { IsSmallTerm (term_of value.now) }
         ensures { IsVerdict (eval_checks_in self.now target.now (term_of value.now)) result }
@@ -36,7 +36,7 @@ impl Statement<'_> {
     }
 
     /// A test: its nodes pass, and it is a truth.
-    fn check_test(&self, test: &Expr) -> Result<(), TypeFault>
+    pub fn check_test(&self, test: &Expr) -> Result<(), TypeFault>
         requires numbered { HasNumbers self.now }
         requires small { IsSmallTerm (term_of test.now) }
         ensures { IsVerdict (test_checks_in self.now (term_of test.now)) result }
@@ -143,7 +143,8 @@ impl Checking<'_> {
         self.check_body(no, next)
     }
 
-    fn statement(&self, number: u32) -> Statement<'_>
+    /// The statement of a number.
+    pub fn statement(&self, number: u32) -> Statement<'_>
         ensures { result ≡ statement_of self.now number }
     {
         Statement {

@@ -4,7 +4,7 @@ use Rattle.pap_tree.specs.Flowchart.{Flowchart}
 use Rattle.limits_file.specs.RangeFiles.{FileSays}
 use Rattle.call_order.specs.Orders.{IsOrdered}
 use Rattle.pap_plan.specs.declared.bound.BoundLimits.{BoundLimits}
-use Rattle.pap_plan.specs.private.AcceptanceClauses.{AreMatched}
+use Rattle.pap_plan.specs.Bindings.{AreMatched}
 
 -- the order of the methods, and the limits of the range file, which are those of the plan
 pub record HasBoundLimits (limits : List ℕ) (f : Flowchart) (b : BoundLimits) : Type 0 where

@@ -13,7 +13,7 @@ use Rattle.pap_plan.specs.declared.refusal.PlanRefusal.{PlanRefusal}
 use Rattle.pap_plan.specs.declared.refusal.PlanRefusal.TheVariants as refusals
 use Rattle.pap_plan.specs.declared.acceptance.Judged.{Judged}
 use Rattle.pap_plan.specs.Acceptance.{IsTypedPlan, IsRefusedOrMemory}
-use Rattle.pap_plan.specs.private.AcceptanceClauses.{AreMatched, IsUnmatched}
+use Rattle.pap_plan.specs.Bindings.{AreMatched, IsUnmatched}
 
 -- the limits are those of the plan, and this is its verdict
 pub record HasVerdict (f : Flowchart) (l : Limits) (v : Verdict) : Type 0 where

@@ -11,6 +11,7 @@ use Rattle.pap_types.specs.declared.nodes.Statement.{Statement}
 use Rattle.pap_types.specs.declared.statements.Checking.{Checking}
 use Rattle.pap_types.specs.Scopes.{Scope, scope_of, declaration_in}
 use Rattle.pap_types.specs.NumberedNames.{IsNumbered}
+use Rattle.pap_types.specs.Routines.{body_named}
 use Rattle.pap_types.specs.Checks.{Check, check, first_fault, place, target_kind, eval_checks, test_checks, body_checks}
 use Rattle.pap_types.specs.private.CheckViews.{scope_of_statement}
 
@@ -44,6 +45,11 @@ eval_checks_in s x e = eval_checks (scope_of_statement s) (flowchart_of s.scope.
 
 abbrev pub test_checks_in : Statement → Term → List Check
 test_checks_in s t = test_checks (scope_of_statement s) (flowchart_of s.scope.plan.now).methods s.method s.number t
+
+-- the check of an execution
+abbrev pub execute_checks_in : Statement → List ℕ → List Check
+execute_checks_in s x =
+    check (is_some (body_named (flowchart_of s.scope.plan.now).methods x)) (faults.NoMethod (place_in s 0)) ∷ []
 
 -- ---- lists of statements
 

@@ -1,6 +1,6 @@
 use Rattle.std.proofs.Common.{subst}
 use Rattle.pap_tree.specs.Flowchart.{flowchart_of}
-use Rattle.pap_plan.specs.private.AcceptanceClauses.{AreMatched}
+use Rattle.pap_plan.specs.Bindings.{AreMatched}
 use Rattle.pap_plan.proofs.AcceptLemmas.{have_limits}
 use Rattle.pap_plan.proofs.acceptance.judge_ranges.Goals as goal
 

@@ -2,7 +2,7 @@ use Rattle.std.proofs.Common.{subst}
 use Rattle.pap_tree.specs.Flowchart.{flowchart_of}
 use Rattle.pap_plan.specs.BoundPlans.{IsBeforeRanges}
 use Rattle.pap_plan.specs.StageRefusals.{order_refusal, limits_refusal}
-use Rattle.pap_plan.specs.private.AcceptanceClauses.{AreMatched, IsUnmatched}
+use Rattle.pap_plan.specs.Bindings.{AreMatched, IsUnmatched}
 use Rattle.pap_plan.specs.private.JudgedViews.{IsMisjudged}
 use Rattle.pap_plan.proofs.AcceptLemmas.{passed, misjudged}
 use Rattle.pap_plan.proofs.BoundLemmas.{order_early, limits_early, unmatched_early, no_verdict}

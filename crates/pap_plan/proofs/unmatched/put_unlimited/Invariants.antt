@@ -1,0 +1,7 @@
+use Rattle.std.proofs.Common.{◌≡◌, ◌++◌, map, take}
+use Rattle.pap_tree.specs.Declarations.{declaration_of}
+use Rattle.pap_plan.specs.LimitFaults.{unlimited_faults}
+use Rattle.pap_plan.proofs.unmatched.put_unlimited.Given as goal
+
+abbrev pub invariant-loop-input : goal.invariant-loop-input
+invariant-loop-input l = l.faults.items ≡ l.fn.faults.items ++ unlimited_faults l.ranges (map declaration_of (take l.input-index l.inputs))
