@@ -46,7 +46,7 @@ fn chart_bound(
 {
     match survey(alloc, &bound.typed, &bound.order, &bound.limits) {
         Ok(survey) => chart_ranges(alloc, plan, limits, bound, &survey),
-        Err(fault) => chart_refused(alloc, plan, limits, &PlanRefusal::from(fault)),
+        Err(refused) => chart_refused(alloc, plan, limits, &PlanRefusal::from(refused.fault)),
     }
 }
 

@@ -45,7 +45,7 @@ fn lint_bound(
 {
     match survey(alloc, &bound.typed, &bound.order, &bound.limits) {
         Ok(survey) => tell_findings(alloc, plan, bound, &survey),
-        Err(fault) => answer_refused(alloc, plan, limits, &PlanRefusal::from(fault)),
+        Err(refused) => answer_refused(alloc, plan, limits, &PlanRefusal::from(refused.fault)),
     }
 }
 

@@ -80,7 +80,7 @@ pub judged : (f : Flowchart) (limits : Limits) (r : Result Verdict RangeFault) (
     → IfErr r (IsWalkFaultOrMemory f limits) → IsEnd r b → b ≡ is_ok (analysed f limits)
 judged f limits (Ok v) b walked fault h = h ∙ sym (ap (λ (r : Result Ranges WalkFault). is_ok r) walked)
 judged f limits (Err (faults.At place cause)) b walked fault h =
-    h ∙ sym (ap (λ (r : Result Ranges WalkFault). is_ok r) fault)
+    h ∙ sym (ap (λ (r : Result Ranges WalkFault). is_ok r) fault.1)
 judged f limits (Err (faults.Output name)) b walked fault h =
     h ∙ sym (ap (λ (r : Result Ranges WalkFault). is_ok r) fault)
 judged f limits (Err (faults.Memory e)) b walked fault h = absurd h

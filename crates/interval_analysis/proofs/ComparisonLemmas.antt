@@ -1,5 +1,5 @@
 -- Steps of the walk of comparisons, and what operations take of typed operands.
-use Rattle.std.proofs.Common.{◌≡◌, ℕ, ◌+◌, Bool, true, false, ◌&&◌, ℤ, pos, List, Option, Some, None, Result, Ok, Err, refl, sym, ap, ap₂, ◌∙◌, subst, arith, ◌⊎◌, inl, inr}
+use Rattle.std.proofs.Common.{◌≡◌, ℕ, ◌+◌, Bool, true, false, ◌&&◌, ℤ, pos, List, [], ◌∷◌, Option, Some, None, Result, Ok, Err, refl, sym, ap, ap₂, ◌∙◌, subst, arith, ◌⊎◌, inl, inr}
 use Rattle.std.specs.Prelude.{is_some}
 use Rattle.std.specs.Int.{w128, w32}
 use Rattle.std.proofs.Common.{FitsSigned, to_z, of_z}
@@ -35,7 +35,7 @@ use Rattle.interval_walk.specs.Ranged.{ranged, are_whole, compare_sides}
 use Rattle.interval_walk.specs.Shapes.{HasShape}
 use Rattle.interval_walk.proofs.Laws.{leaf_shape, passed_node, shape_bits, wider_left, wider_right, shown_plain, comparison_row_aligned}
 use Rattle.interval_analysis.specs.declared.expressions.Stop.{Stop}
-use Rattle.interval_analysis.specs.declared.expressions.Stop.TheVariants.{At, Memory}
+use Rattle.interval_analysis.specs.declared.expressions.Stop.TheVariants.{At, AtOne, AtTwo, Memory}
 use Rattle.interval_analysis.specs.declared.comparisons.Compared.{Compared}
 use Rattle.interval_analysis.specs.declared.conditions.Inner.{Inner}
 use Rattle.interval_analysis.specs.declared.conditions.Tested.{Tested}
@@ -154,7 +154,7 @@ has_range w e at rs r sized h n is = by e h.range (sym is ∙ h.variable)
     of_name x range number =
         let env = ranges_in w.plan.now rs in
         let scope = scope_in w.plan.now in
-        let read = (leaf_shape scope (named x) env r.range (passed_node at (leaf_range scope (named x) env) r.range range)).0 in
+        let read = (leaf_shape scope (named x) env r.range (passed_node at _ (leaf_range scope (named x) env) r.range range)).0 in
         let there = named_by (variables_in w.plan.now) rs x n sized (sym number) in
         let within = (names.number_in (variables_in w.plan.now) x n (sym number)).1 in
         elim (slice_get_cases rs n).1 [
@@ -218,6 +218,8 @@ same_compared w c at q m o rs (Ok d) is end left right h = record {
   next = h.next ∙ sym end;
 }
 same_compared w c at q m o rs (Err (At i x)) is end left right h = is ∙ ap (λ q. and_then q (λ ways. Ok (named_ways w.plan.now ways))) (h rs)
+same_compared w c at q m o rs (Err (AtOne i x y)) is end left right h = is ∙ ap (λ q. and_then q (λ ways. Ok (named_ways w.plan.now ways))) (h rs)
+same_compared w c at q m o rs (Err (AtTwo i x y z)) is end left right h = is ∙ ap (λ q. and_then q (λ ways. Ok (named_ways w.plan.now ways))) (h rs)
 same_compared w c at q m o rs (Err Memory) is end left right h = tt
 
 -- ways behind a node
@@ -248,12 +250,12 @@ module _ (w : Walk) (op : Binary) (e f : Term) (at : ℕ) (rs : List Interval) (
 
   sides_are : IsSized w.plan.now rs → IsPlainComparison e f → comparison_in w (comparison op e f) at env ≡ and_then (sides_compared op o rs) (λ ways. Ok (named_ways w.plan.now ways))
   sides_are sized plain =
-      behind (λ a b. and_then (at_node (at + nodes e + nodes f) (comparison_range op a b)) (λ r. Ok (compared op (are_whole scope e f) (sides e f a b) (compare_sides scope e at env) (int_literal f) env)))
-      ∙ ap₂ (λ n br. and_then (at_node n (comparison_range op o.first.range o.second.range)) (λ r. Ok br)) end_is
+      behind (λ a b. and_then (at_node (at + nodes e + nodes f) (a ∷ b ∷ []) (comparison_range op a b)) (λ r. Ok (compared op (are_whole scope e f) (sides e f a b) (compare_sides scope e at env) (int_literal f) env)))
+      ∙ ap₂ (λ n br. and_then (at_node n (o.first.range ∷ o.second.range ∷ []) (comparison_range op o.first.range o.second.range)) (λ r. Ok br)) end_is
       (plain_compared op (are_whole scope e f) (sides e f o.first.range o.second.range) env scope e f at plain
       ∙ ap₂ (λ j k. meant.branches_of (is_whole j && is_whole k) (signs_where op (pos 0)) (sides e f o.first.range o.second.range) env) (sym h.first.kind) (sym h.second.kind)
       ∙ ways_are sized (is_whole o.first.kind && is_whole o.second.kind) (signs_where op (pos 0)))
-      ∙ behind_node w.plan.now (at_node o.second.next (comparison_range op o.first.range o.second.range)) (branches_by (sides_of o (is_whole o.first.kind && is_whole o.second.kind)) (signs_where op (pos 0)) rs)
+      ∙ behind_node w.plan.now (at_node o.second.next (o.first.range ∷ o.second.range ∷ []) (comparison_range op o.first.range o.second.range)) (branches_by (sides_of o (is_whole o.first.kind && is_whole o.second.kind)) (signs_where op (pos 0)) rs)
 
   left_range : IsSized w.plan.now rs → HasRange o.first rs
   left_range sized = has_range w e at rs o.first sized h.first
@@ -280,22 +282,22 @@ module _ (w : Walk) (op : Binary) (e f : Term) (at : ℕ) (rs : List Interval) (
     order_are =
         let number : at + nodes whole_of ≡ o.second.next + 1 = omega (arith, end_is) in
         let last : at + nodes whole_of + 1 ≡ o.second.next + 2 = omega (arith, end_is) in
-        let node = at_node o.second.next (comparison_row o.first.range o.second.range) in
+        let node = at_node o.second.next (o.first.range ∷ o.second.range ∷ []) (comparison_row o.first.range o.second.range) in
         let direct = λ (c l : Interval). sides whole_of (leaf (whole k)) c l in
-        let go = λ (n m : ℕ) (s : Option meant.Sides) (r : Result Interval NodeFault). and_then r (λ c. and_then (at_node n (read_range kinds.Int (single (whole_decimal k)))) (λ l. and_then (at_node m (comparison_range op c l)) (λ x. Ok (compared op (are_whole scope whole_of (leaf (whole k))) (direct c l) s (Some (decimal k 0)) env)))) in
-        let there = behind (λ a b. at_node (at + nodes e + nodes f) (comparison_row a b)) ∙ ap (λ n. at_node n (comparison_row o.first.range o.second.range)) end_is in
+        let go = λ (n m : ℕ) (s : Option meant.Sides) (r : Result Interval NodeFault). and_then r (λ c. and_then (at_node n [] (read_range kinds.Int (single (whole_decimal k)))) (λ l. and_then (at_node m (c ∷ l ∷ []) (comparison_range op c l)) (λ x. Ok (compared op (are_whole scope whole_of (leaf (whole k))) (direct c l) s (Some (decimal k 0)) env)))) in
+        let there = behind (λ a b. at_node (at + nodes e + nodes f) (a ∷ b ∷ []) (comparison_row a b)) ∙ ap (λ n. at_node n (o.first.range ∷ o.second.range ∷ []) (comparison_row o.first.range o.second.range)) end_is in
         ap (go (at + nodes whole_of) (at + nodes whole_of + 1) (compare_sides scope whole_of at env)) there
         ∙ ap (λ s. go (at + nodes whole_of) (at + nodes whole_of + 1) s node) inner_sides
         ∙ ap₂ (λ n m. go n m (Some (sides e f o.first.range o.second.range)) node) number last
         ∙ by node
       where
-        by : (r : Result Interval NodeFault) → and_then r (λ c. and_then (at_node (o.second.next + 1) (read_range kinds.Int (single (whole_decimal k)))) (λ l. and_then (at_node (o.second.next + 2) (comparison_range op c l)) (λ x. Ok (meant.branches_of false (signs_where op k) (sides e f o.first.range o.second.range) env))))
-            ≡ and_then (and_then r (λ c. and_then (at_node (o.second.next + 1) (read_range kinds.Int (single (whole_decimal k)))) (λ l. at_node (o.second.next + 2) (comparison_range op c l)))) (λ _. Ok (meant.branches_of false (signs_where op k) (sides e f o.first.range o.second.range) env))
+        by : (r : Result Interval NodeFault) → and_then r (λ c. and_then (at_node (o.second.next + 1) [] (read_range kinds.Int (single (whole_decimal k)))) (λ l. and_then (at_node (o.second.next + 2) (c ∷ l ∷ []) (comparison_range op c l)) (λ x. Ok (meant.branches_of false (signs_where op k) (sides e f o.first.range o.second.range) env))))
+            ≡ and_then (and_then r (λ c. and_then (at_node (o.second.next + 1) [] (read_range kinds.Int (single (whole_decimal k)))) (λ l. at_node (o.second.next + 2) (c ∷ l ∷ []) (comparison_range op c l)))) (λ _. Ok (meant.branches_of false (signs_where op k) (sides e f o.first.range o.second.range) env))
         by (Err x) = refl
-        by (Ok c) = at_literal (at_node (o.second.next + 1) (read_range kinds.Int (single (whole_decimal k))))
+        by (Ok c) = at_literal (at_node (o.second.next + 1) [] (read_range kinds.Int (single (whole_decimal k))))
           where
-            at_literal : (q : Result Interval NodeFault) → and_then q (λ l. and_then (at_node (o.second.next + 2) (comparison_range op c l)) (λ x. Ok (meant.branches_of false (signs_where op k) (sides e f o.first.range o.second.range) env)))
-                ≡ and_then (and_then q (λ l. at_node (o.second.next + 2) (comparison_range op c l))) (λ _. Ok (meant.branches_of false (signs_where op k) (sides e f o.first.range o.second.range) env))
+            at_literal : (q : Result Interval NodeFault) → and_then q (λ l. and_then (at_node (o.second.next + 2) (c ∷ l ∷ []) (comparison_range op c l)) (λ x. Ok (meant.branches_of false (signs_where op k) (sides e f o.first.range o.second.range) env)))
+                ≡ and_then (and_then q (λ l. at_node (o.second.next + 2) (c ∷ l ∷ []) (comparison_range op c l))) (λ _. Ok (meant.branches_of false (signs_where op k) (sides e f o.first.range o.second.range) env))
             at_literal (Err x) = refl
             at_literal (Ok l) = refl
 
@@ -324,9 +326,9 @@ order_stops w op e f i at rs stop inner h =
     let x = term_of i.left.now in
     let y = term_of i.right.now in
     let t = two (method calls.CompareTo) x y in
-    let first = stops_two (ranged_in w x at rs) (ranged_in w y (at + nodes x) rs) (λ a b. at_node (at + nodes x + nodes y) (comparison_row a b)) stop h in
+    let first = stops_two (ranged_in w x at rs) (ranged_in w y (at + nodes x) rs) (λ a b. at_node (at + nodes x + nodes y) (a ∷ b ∷ []) (comparison_row a b)) stop h in
     subst (λ e. StopsAs (comparison_in w (comparison op e f) at env) stop) (sym inner.left)
-    (stops_first (ranged scope t at env) (λ a. and_then (ranged scope f (at + nodes t) env) (λ b. and_then (at_node (at + nodes t + nodes f) (comparison_range op a b)) (λ r. Ok (compared op (are_whole scope t f) (sides t f a b) (compare_sides scope t at env) (int_literal f) env)))) stop first)
+    (stops_first (ranged scope t at env) (λ a. and_then (ranged scope f (at + nodes t) env) (λ b. and_then (at_node (at + nodes t + nodes f) (a ∷ b ∷ []) (comparison_range op a b)) (λ r. Ok (compared op (are_whole scope t f) (sides t f a b) (compare_sides scope t at env) (int_literal f) env)))) stop first)
 
 -- ---- what the branches of sides need
 
@@ -336,35 +338,35 @@ have_shapes w e f at rs o can h = record { left = left_shape w at rs e f o can h
 pub order_aligned : (op : Binary) (k : ℤ) (a b : Interval) (n : ℕ) (r : Interval) → order_node op k a b n ≡ Ok r → Align a b
 order_aligned op k a b n r h = by (comparison_row a b) refl h
   where
-    by : (q : RowAnswer) → comparison_row a b ≡ q → and_then (at_node n q) (λ c. and_then (at_node (n + 1) (read_range kinds.Int (single (whole_decimal k)))) (λ l. at_node (n + 2) (comparison_range op c l))) ≡ Ok r → Align a b
+    by : (q : RowAnswer) → comparison_row a b ≡ q → and_then (at_node n (a ∷ b ∷ []) q) (λ c. and_then (at_node (n + 1) [] (read_range kinds.Int (single (whole_decimal k)))) (λ l. at_node (n + 2) (c ∷ l ∷ []) (comparison_range op c l))) ≡ Ok r → Align a b
     by (Ok c) e h = comparison_row_aligned a b c e
     by (Err c) e h = absurd (cc)
 
 -- ---- the nodes of a compareTo with an `int` literal
 
-module _ (op : Binary) (k : ℤ) (a b : Interval) (at : ℕ) (c : Interval) (n : ℕ) (first : at_node at (comparison_row a b) ≡ Ok c) (number : n ≡ at + 1) where
-  order_then : order_node op k a b at ≡ and_then (at_node n (read_range kinds.Int (single (whole_decimal k)))) (λ l. at_node (n + 1) (comparison_range op c l))
+module _ (op : Binary) (k : ℤ) (a b : Interval) (at : ℕ) (c : Interval) (n : ℕ) (first : at_node at (a ∷ b ∷ []) (comparison_row a b) ≡ Ok c) (number : n ≡ at + 1) where
+  order_then : order_node op k a b at ≡ and_then (at_node n [] (read_range kinds.Int (single (whole_decimal k)))) (λ l. at_node (n + 1) (c ∷ l ∷ []) (comparison_range op c l))
   order_then =
       let last : at + 2 ≡ n + 1 = omega (arith, number) in
-      ap (λ q. and_then q (λ c. and_then (at_node (at + 1) (read_range kinds.Int (single (whole_decimal k)))) (λ l. at_node (at + 2) (comparison_range op c l)))) first
-      ∙ ap₂ (λ i j. and_then (at_node i (read_range kinds.Int (single (whole_decimal k)))) (λ l. at_node j (comparison_range op c l))) (sym number) last
+      ap (λ q. and_then q (λ c. and_then (at_node (at + 1) [] (read_range kinds.Int (single (whole_decimal k)))) (λ l. at_node (at + 2) (c ∷ l ∷ []) (comparison_range op c l)))) first
+      ∙ ap₂ (λ i j. and_then (at_node i [] (read_range kinds.Int (single (whole_decimal k)))) (λ l. at_node j (c ∷ l ∷ []) (comparison_range op c l))) (sym number) last
 
-  pub literal_stops : (stop : Stop) → StopsAs (at_node n (read_range kinds.Int (single (whole_decimal k)))) stop → StopsAs (order_node op k a b at) stop
+  pub literal_stops : (stop : Stop) → StopsAs (at_node n [] (read_range kinds.Int (single (whole_decimal k)))) stop → StopsAs (order_node op k a b at) stop
   literal_stops stop h =
       subst (λ q. StopsAs q stop) (sym order_then)
-      (stops_first (at_node n (read_range kinds.Int (single (whole_decimal k)))) (λ l. at_node (n + 1) (comparison_range op c l)) stop h)
+      (stops_first (at_node n [] (read_range kinds.Int (single (whole_decimal k)))) (λ l. at_node (n + 1) (c ∷ l ∷ []) (comparison_range op c l)) stop h)
 
-  module _ (l : Interval) (m : ℕ) (literal : at_node n (read_range kinds.Int (single (whole_decimal k))) ≡ Ok l) (next : m ≡ n + 1) where
-    order_last : order_node op k a b at ≡ at_node m (comparison_range op c l)
+  module _ (l : Interval) (m : ℕ) (literal : at_node n [] (read_range kinds.Int (single (whole_decimal k))) ≡ Ok l) (next : m ≡ n + 1) where
+    order_last : order_node op k a b at ≡ at_node m (c ∷ l ∷ []) (comparison_range op c l)
     order_last =
         order_then
-        ∙ ap (λ q. and_then q (λ l. at_node (n + 1) (comparison_range op c l))) literal
-        ∙ ap (λ i. at_node i (comparison_range op c l)) (sym next)
+        ∙ ap (λ q. and_then q (λ l. at_node (n + 1) (c ∷ l ∷ []) (comparison_range op c l))) literal
+        ∙ ap (λ i. at_node i (c ∷ l ∷ []) (comparison_range op c l)) (sym next)
 
-    pub order_node_stops : (stop : Stop) → StopsAs (at_node m (comparison_range op c l)) stop → StopsAs (order_node op k a b at) stop
+    pub order_node_stops : (stop : Stop) → StopsAs (at_node m (c ∷ l ∷ []) (comparison_range op c l)) stop → StopsAs (order_node op k a b at) stop
     order_node_stops stop h = subst (λ q. StopsAs q stop) (sym order_last) h
 
-    pub order_passes : (r : Interval) (end : ℕ) → at_node m (comparison_range op c l) ≡ Ok r → end ≡ m + 1 → IsPassed (order_node op k a b at) (at + 3) end
+    pub order_passes : (r : Interval) (end : ℕ) → at_node m (c ∷ l ∷ []) (comparison_range op c l) ≡ Ok r → end ≡ m + 1 → IsPassed (order_node op k a b at) (at + 3) end
     order_passes r end h is = record { range = r; passes = order_last ∙ h; next = omega (arith, is, next, number) }
 
 pub order_err : (op : Binary) (k : ℤ) (a b : Interval) (at : ℕ) (stop : Stop) (res : Result ℕ Stop) → IsErrAnd res (λ s. s ≡ stop) → StopsAs (order_node op k a b at) stop → OrderAnswer op k a b at res
@@ -378,3 +380,7 @@ compared_err w c at rs stop (Err s) is h = subst (StopsAs (comparison_in w c at 
 pub tests_err : (w : Walk) (r : Result meant.Branches NodeFault) (end : ℕ) (rs : List Interval) (stop : Stop) (res : Result Tested Stop) → IsErrAnd res (λ s. s ≡ stop) → StopsAs r stop → TestsAs w r end rs res
 tests_err w r end rs stop (Ok t) is h = absurd is
 tests_err w r end rs stop (Err s) is h = subst (StopsAs r) (sym is) h
+
+pub compares_err : (q : WaysFrom) (end : ℕ) (o : Operands) (stop : Stop) (res : Result Compared Stop) → IsErrAnd res (λ s. s ≡ stop) → ((rs : List Interval) → StopsAs (q rs) stop) → ComparesAs q end o res
+compares_err q end o stop (Ok d) is h = absurd is
+compares_err q end o stop (Err s) is h = λ rs. subst (StopsAs (q rs)) (sym is) (h rs)

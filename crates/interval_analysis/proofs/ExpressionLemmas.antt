@@ -1,5 +1,5 @@
 -- Steps of the walk of expressions.
-use Rattle.std.proofs.Common.{◌≡◌, ℕ, ◌+◌, List, Result, Ok, Err, refl, ◌∙◌, arith}
+use Rattle.std.proofs.Common.{◌≡◌, ℕ, ◌+◌, List, [], ◌∷◌, Result, Ok, Err, refl, ◌∙◌, arith}
 use Rattle.pap_tree.specs.declared.expression.Binary.{Binary}
 use Rattle.pap_tree.specs.declared.expression.Binary.TheVariants as binaries
 use Rattle.pap_tree.specs.Term.{Term, two, operator}
@@ -12,7 +12,7 @@ use Rattle.interval_walk.specs.NodeRanges.{comparison_range}
 use Rattle.interval_walk.specs.Branches as meant
 use Rattle.interval_walk.specs.Ranged.{tested, are_whole, compare_sides}
 use Rattle.interval_analysis.specs.declared.expressions.Stop.{Stop}
-use Rattle.interval_analysis.specs.declared.expressions.Stop.TheVariants.{At, Memory}
+use Rattle.interval_analysis.specs.declared.expressions.Stop.TheVariants.{At, AtOne, AtTwo, Memory}
 use Rattle.interval_analysis.specs.declared.conditions.Tested.{Tested}
 use Rattle.interval_analysis.specs.declared.expressions.Walk.{Walk}
 use Rattle.pap_types.specs.private.ScopeViews.{scope_in}
@@ -43,6 +43,8 @@ plain_answer w op e f at rs (Ok r) a o h = record {
   next = h.next ∙ omega arith;
 }
 plain_answer w op e f at rs (Err (At n c)) a o h = plain_operator w op e f at (ranges_in w.plan.now rs) a o ∙ h
+plain_answer w op e f at rs (Err (AtOne n c x)) a o h = plain_operator w op e f at (ranges_in w.plan.now rs) a o ∙ h
+plain_answer w op e f at rs (Err (AtTwo n c x y)) a o h = plain_operator w op e f at (ranges_in w.plan.now rs) a o ∙ h
 plain_answer w op e f at rs (Err Memory) a o h = tt
 
 -- a comparison stops where one of its sides does
@@ -51,4 +53,4 @@ comparison_stops w op e f at rs stop h =
     let scope = scope_in w.plan.now in
     let env = ranges_in w.plan.now rs in
     stops_two (ranged_in w e at rs) (ranged_in w f (at + nodes e) rs)
-    (λ a b. and_then (at_node (at + nodes e + nodes f) (comparison_range op a b)) (λ r. Ok (meant.compared op (are_whole scope e f) (meant.sides e f a b) (compare_sides scope e at env) (int_literal f) env))) stop h
+    (λ a b. and_then (at_node (at + nodes e + nodes f) (a ∷ b ∷ []) (comparison_range op a b)) (λ r. Ok (meant.compared op (are_whole scope e f) (meant.sides e f a b) (compare_sides scope e at env) (int_literal f) env))) stop h

@@ -62,9 +62,9 @@ point_fits d e =
 
 -- a literal that goes to a `double`
 literal_fits : (scope : Scope) (e : Term) (at : ℕ) (env : Ranges) (a : Interval) → is_factor_literal e ≡ true → ranged scope e at env ≡ Ok a → FitsFactor a
-literal_fits scope (leaf (whole i)) at env a f h = whole_fits a (leaf_shape scope (whole i) env a (passed_node at (leaf_range scope (whole i) env) a h)).1.suits
+literal_fits scope (leaf (whole i)) at env a f h = whole_fits a (leaf_shape scope (whole i) env a (passed_node at _ (leaf_range scope (whole i) env) a h)).1.suits
 literal_fits scope (leaf (point d)) at env a f h =
-    let read = (leaf_shape scope (point d) env a (passed_node at (leaf_range scope (point d) env) a h)).0 in
+    let read = (leaf_shape scope (point d) env a (passed_node at _ (leaf_range scope (point d) env) a h)).0 in
     let same : single d ≡ a = cc in
     subst FitsFactor same (point_fits d f)
 literal_fits scope (leaf (long i)) at env a f h = absurd (cc)

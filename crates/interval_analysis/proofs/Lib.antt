@@ -18,6 +18,7 @@ pub mod RangeLemmas
 pub mod RepeatLemmas
 pub mod StartLemmas
 pub mod StatementLemmas
+pub mod StopLemmas
 pub mod TableLemmas
 pub mod VariableLemmas
 pub mod VisitLemmas

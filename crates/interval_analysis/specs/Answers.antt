@@ -1,13 +1,16 @@
 -- What the analysis answers.
-use Rattle.std.specs.Prelude.{◌≡◌, Err, ⊤}
+use Rattle.std.specs.Prelude.{◌≡◌, List, [], map, Err, ⊤}
 use Rattle.pap_tree.specs.Flowchart.{Flowchart}
 use Rattle.limits_file.specs.declared.limits.Limits.{Limits}
+use Rattle.interval_num.specs.Intervals.{Interval}
 use Rattle.interval_walk.specs.Ranges.{NamedRange}
 use Rattle.interval_walk.specs.Failures.{node_fails, output_fails}
 use Rattle.interval_walk.specs.Analysis.{analysed}
 use Rattle.interval_analysis.specs.declared.verdict.OutputRange.{OutputRange}
 use Rattle.interval_analysis.specs.declared.fault.RangeFault.{RangeFault}
 use Rattle.interval_analysis.specs.declared.fault.RangeFault.TheVariants as faults
+use Rattle.interval_analysis.specs.declared.value_range.ValueRange.{ValueRange}
+use Rattle.interval_analysis.specs.Surveys.{value_range}
 
 -- an output's range with its name, as the walk has it
 abbrev pub named_range : OutputRange → NamedRange
@@ -15,7 +18,8 @@ named_range o = record { name = o.name; range = o.range }
 
 -- the walk of a plan fails there, for that cause; memory that ran out isn't a failure of the walk
 abbrev pub IsWalkFault : Flowchart → Limits → RangeFault → Type 0
-IsWalkFault f limits (faults.At place cause) = analysed f limits ≡ Err (node_fails place cause)
+IsWalkFault f limits (faults.At place cause) =
+    (operands : List Interval) × (analysed f limits ≡ Err (node_fails place cause operands))
 IsWalkFault f limits (faults.Output name) = analysed f limits ≡ Err (output_fails name)
 IsWalkFault f limits (faults.Memory e) = ⊥
 
@@ -23,3 +27,10 @@ IsWalkFault f limits (faults.Memory e) = ⊥
 abbrev pub IsWalkFaultOrMemory : Flowchart → Limits → RangeFault → Type 0
 IsWalkFaultOrMemory f limits (faults.Memory e) = ⊤
 IsWalkFaultOrMemory f limits other = IsWalkFault f limits other
+
+-- the ranges that the operands of the failing node have there, from the left; none where the fault has no node
+abbrev pub AreFailingOperands : Flowchart → Limits → RangeFault → List ValueRange → Type 0
+AreFailingOperands f limits (faults.At place cause) ranges =
+    (operands : List Interval) × (analysed f limits ≡ Err (node_fails place cause operands))
+    × (map value_range operands ≡ ranges)
+AreFailingOperands f limits other ranges = ranges ≡ []

@@ -13,6 +13,7 @@ pub mod PlanViews
 pub mod ShapeViews
 pub mod StartViews
 pub mod StatementViews
+pub mod StopViews
 pub mod TableViews
 pub mod TestViews
 pub mod VariableViews

@@ -8,9 +8,10 @@ ghost use Rattle.call_order.specs.Orders.{IsOrdered};
 ghost use Rattle.interval_walk.specs.Admission.{HaveLimits, AreAdmitted};
 ghost use Rattle.interval_walk.specs.Analysis.{analysed};
 ghost use Rattle.interval_walk.specs.Soundness.{RunHolds};
-ghost use Rattle.interval_analysis.specs.Answers.{named_range, IsWalkFaultOrMemory};
+ghost use Rattle.interval_analysis.specs.Answers.{named_range, AreFailingOperands, IsWalkFaultOrMemory};
 ghost use Rattle.interval_analysis.specs.Surveys.{AreLeastRanges, AreOpen, AreReached, HaveExecuted, HavePut, HaveTaken};
 ghost use Rattle.interval_analysis.specs.private.OutputViews.{OutputAnswer};
+ghost use Rattle.interval_analysis.specs.private.StopViews.{IsStopOf};
 ghost use Rattle.interval_analysis.specs.private.VisitViews.{Gathers, SaysKnown};
 ghost use Rattle.interval_walk.specs.Visits.{WalkComes};
 
@@ -19,11 +20,12 @@ use crate::expressions::Walk;
 use crate::outputs::output_ranges;
 use crate::start::start_ranges;
 use crate::statements::Spot;
+use crate::stop::{WalkStop, refused};
 use crate::tables::TabledPlan;
 use crate::variables::Variables;
 use crate::visits::Visits;
 use crate::weights::weights_of;
-use crate::{OutputRange, RangeFault, Survey, Verdict};
+use crate::{OutputRange, RangeFault, RefusedSurvey, Survey, Verdict};
 use limits_file::Limits;
 use pap_tree::Name;
 use pap_types::{LONGEST_CHAIN, Typed};
@@ -61,16 +63,18 @@ pub fn analyse(
 {
     // For the proof: the plan is well typed, and its nodes and statements are counted.
     let _well_typed = t.plan();
-    let weights = weights_of(alloc, t, order)?;
-    let outputs = walked_outputs(alloc, t, &weights, limits, &mut Visits::unasked())?;
-    let bound = bound_of(alloc, t, order)?;
-    Ok(Verdict { bound, outputs })
+    match judged(alloc, t, order, limits, &mut Visits::unasked()) {
+        Ok(verdict) => Ok(verdict),
+        Err(stop) => Err(stop.fault()),
+    }
 }
 
 /// Walks a plan as [`analyse`] does, with the same answers, and tells to which statements the walk came, the least range of what each
 /// EVAL put there, and which exits of IFs were open. Every statement that a run on admitted inputs executes is among them, each
 /// value that it puts lies in the statement's range, and each exit that it takes is open; so no such run executes another
 /// statement or takes another exit.
+///
+/// Refused as by [`analyse`], with the ranges of the failing node's operands; `Memory` also where memory runs out for these.
 ///
 /// Takes time as `analyse`, with a factor logarithmic in the number of statements at each statement that is walked, and memory
 /// linear in that number beside what `analyse` takes.
@@ -79,13 +83,15 @@ pub fn survey(
     t: &Typed,
     order: &[u32],
     limits: &Limits,
-) -> Result<Survey, RangeFault>
+) -> Result<Survey, RefusedSurvey>
     requires ordered { IsOrdered (flowchart_of t.now) order.now }
     requires limits { HaveLimits (flowchart_of t.now) limits.now }
     ensures ranges { IfOk result (λ s.
         analysed (flowchart_of t.now) limits.now ≡ Ok (map named_range s.verdict.outputs.items)) }
     ensures bound { IfOk result (λ s. s.verdict.bound ≡ bound_of (flowchart_of t.now)) }
-    ensures fault { IfErr result (IsWalkFaultOrMemory (flowchart_of t.now) limits.now) }
+    ensures fault { IfErr result (λ r. IsWalkFaultOrMemory (flowchart_of t.now) limits.now r.fault) }
+    ensures operands { IfErr result
+        (λ r. AreFailingOperands (flowchart_of t.now) limits.now r.fault r.operands.items) }
     ensures reached { IfOk result (λ s. AreReached (flowchart_of t.now) limits.now s.reached) }
     ensures values { IfOk result (λ s. AreLeastRanges (flowchart_of t.now) limits.now s.values) }
     ensures exits { IfOk result (λ s. AreOpen (flowchart_of t.now) limits.now s.exits) }
@@ -97,11 +103,35 @@ pub fn survey(
 {
     // For the proof: the plan is well typed, and its nodes and statements are counted.
     let _well_typed = t.plan();
-    let weights = weights_of(alloc, t, order)?;
     let mut visits = Visits::new(alloc);
-    let outputs = walked_outputs(alloc, t, &weights, limits, &mut visits)?;
+    match judged(alloc, t, order, limits, &mut visits) {
+        Ok(verdict) => Ok(survey_of(verdict, visits)),
+        Err(stop) => Err(refused(alloc, stop)),
+    }
+}
+
+/// The verdict on a plan, or why its walk stops.
+fn judged(
+    alloc: Global,
+    t: &Typed,
+    order: &[u32],
+    limits: &Limits,
+    visits: &mut Visits,
+) -> Result<Verdict, WalkStop>
+    requires ordered { IsOrdered (flowchart_of t.now) order.now }
+    requires limits { HaveLimits (flowchart_of t.now) limits.now }
+    ensures ranges { IfOk result
+        (λ v. analysed (flowchart_of t.now) limits.now ≡ Ok (map named_range v.outputs.items)) }
+    ensures bound { IfOk result (λ v. v.bound ≡ bound_of (flowchart_of t.now)) }
+    ensures stop { IfErr result (IsStopOf (analysed (flowchart_of t.now) limits.now)) }
+    ensures visits { OnOk result
+        (Gathers (scope_of (flowchart_of t.now)) (WalkComes (flowchart_of t.now) limits.now)
+        visits.old visits.new) }
+{
+    let weights = weights_of(alloc, t, order)?;
+    let outputs = walked_outputs(alloc, t, &weights, limits, visits)?;
     let bound = bound_of(alloc, t, order)?;
-    Ok(survey_of(Verdict { bound, outputs }, visits))
+    Ok(Verdict { bound, outputs })
 }
 
 /// What is known behind a walk of which it was kept.
@@ -128,7 +158,7 @@ fn walked_outputs(
     weights: &[u64],
     limits: &Limits,
     visits: &mut Visits,
-) -> Result<Vec<OutputRange>, RangeFault>
+) -> Result<Vec<OutputRange>, WalkStop>
     requires { HaveLimits (flowchart_of plan.now) limits.now }
     ensures outputs { OutputAnswer (analysed (flowchart_of plan.now) limits.now) result }
     ensures visits { OnOk result

@@ -16,7 +16,7 @@ use crate::comparisons::{
     Compared, Sides, are_whole, branch_of, branches_of, can_lead, others, signs_where,
 };
 use crate::expressions::{Operands, Stop, Walk};
-use crate::nodes::{literal, own};
+use crate::nodes::{literal, own_two};
 use crate::operations::comparison_range;
 use crate::outlines::outline_of;
 use crate::variables::{Variables, taken_back};
@@ -339,7 +339,13 @@ fn compare_sides(op: Binary, operands: Operands) -> Result<Compared, Stop>
 {
     let Operands { first, second } = operands;
     let compared = comparison_range(op, first.range, second.range);
-    let compared = own(compared, NodeKind::Truth, second.next)?;
+    let compared = own_two(
+        first.range,
+        second.range,
+        compared,
+        NodeKind::Truth,
+        second.next,
+    )?;
     let whole = are_whole(first.kind, second.kind);
     Ok(Compared {
         sides: Sides::of(operands, whole),
@@ -432,10 +438,16 @@ fn behind_order(op: Binary, number: i32, left: Abs, right: Abs, at: u32) -> Resu
     requires { at + 3 < 2 ^ 32 }
     ensures { OrderAnswer op number left right at result }
 {
-    let order = own(abs_cmp(left, right), NodeKind::Int, at)?;
+    let order = own_two(left, right, abs_cmp(left, right), NodeKind::Int, at)?;
     let literal = literal(Dec::new(number as i128, 0), NodeKind::Int, order.next)?;
     let compared = comparison_range(op, order.range, literal.range);
-    let compared = own(compared, NodeKind::Truth, literal.next)?;
+    let compared = own_two(
+        order.range,
+        literal.range,
+        compared,
+        NodeKind::Truth,
+        literal.next,
+    )?;
     Ok(compared.next)
 }
 

@@ -28,7 +28,23 @@ use std::alloc::{AllocError, Global};
 #[derive(Drop)]
 pub(crate) enum Stop {
     /// A node may fail.
-    At { node: u32, cause: RangeCause },
+    At {
+        node: u32,
+        cause: RangeCause,
+    },
+    /// A node may fail, whose only operand has this range there.
+    AtOne {
+        node: u32,
+        cause: RangeCause,
+        operand: Abs,
+    },
+    /// A node may fail, whose operands have these ranges there.
+    AtTwo {
+        node: u32,
+        cause: RangeCause,
+        first: Abs,
+        second: Abs,
+    },
     /// Memory ran out.
     Memory,
 }

@@ -5,7 +5,7 @@
 //! noted is joined, in place (`joins.rt`). The parts of `&&`, `||` and a conditional are walked on the same array, and
 //! their changes taken back at the end. A variable's name is looked up by its first 16 bytes as one number. Asked by
 //! `survey`, the walk keeps each statement to which it comes, the least range of what each EVAL puts over all visits,
-//! and which exits of each IF are open.
+//! and which exits of each IF are open. A walk that stops at a node brings the ranges of its operands along (`stop.rt`).
 #![tactic(auto)]
 
 mod analysis;
@@ -27,6 +27,7 @@ mod repeats;
 mod shapes;
 mod start;
 mod statements;
+mod stop;
 mod tables;
 mod value_range;
 mod variables;
@@ -37,4 +38,4 @@ mod weights;
 pub use analysis::{analyse, survey};
 pub use fault::RangeFault;
 pub use value_range::ValueRange;
-pub use verdict::{OutputRange, Survey, Verdict};
+pub use verdict::{OutputRange, RefusedSurvey, Survey, Verdict};

@@ -1,13 +1,15 @@
 //! The ranges of single nodes, whose operands can't fail.
-ghost use Rattle.std.specs.Prelude.{◌≡◌, ◌+◌, ◌<◌, ◌^◌, Some, None};
+ghost use Rattle.std.specs.Prelude.{◌≡◌, ◌+◌, ◌<◌, ◌^◌, [], ◌∷◌, Some, None};
 ghost use Rattle.pap_tree.specs.Term.{term_of};
 ghost use Rattle.pap_types.specs.Kinds.{kind_of_one, kind_of_two, wider};
 ghost use Rattle.interval_num.specs.Intervals.{IsWhole};
+ghost use Rattle.interval_walk.specs.Failures.{at_node};
 ghost use Rattle.interval_walk.specs.Ranges.{single};
 ghost use Rattle.interval_walk.specs.NodeRanges.{read_range, item_range};
 ghost use Rattle.pap_types.specs.private.ScopeViews.{scope_in};
 ghost use Rattle.interval_analysis.specs.private.ShapeViews.{TakesOne, TakesTwo, one_meant, two_meant};
 ghost use Rattle.interval_analysis.specs.private.ExpressionViews.{NodeAnswer, OwnAnswer, OneAnswer, TwoAnswer, either_range};
+ghost use Rattle.interval_analysis.specs.private.StopViews.{range_list};
 
 use crate::expressions::{Operands, Part, Ranged, Stop};
 use crate::names::single;
@@ -19,12 +21,64 @@ use pap_tree::Expr;
 use pap_types::{NodeKind, Typed, kind_of_call, kind_of_operator, kind_of_unary};
 use scaled_decimal::Dec;
 
-/// The answer of a node whose operands can't fail.
+/// The answer of a node that has no operands, or whose operands leave its range to one of them.
 pub(crate) fn own(range: Result<Abs, RangeCause>, kind: NodeKind, at: u32) -> Result<Ranged, Stop>
     requires { at + 1 < 2 ^ 32 }
-    ensures { OwnAnswer range kind at result }
+    ensures { OwnAnswer (at_node at [] range) kind at result }
 {
     named(None, range, kind, at)
+}
+
+/// The answer of a node whose operand, which can't fail, has this range.
+pub(crate) fn own_one(
+    operand: Abs,
+    range: Result<Abs, RangeCause>,
+    kind: NodeKind,
+    at: u32,
+) -> Result<Ranged, Stop>
+    requires { at + 1 < 2 ^ 32 }
+    ensures { OwnAnswer (at_node at (operand ∷ []) range) kind at result }
+{
+    match range {
+        Ok(range) => Ok(Ranged {
+            range,
+            kind,
+            next: at + 1,
+            variable: None,
+        }),
+        Err(cause) => Err(Stop::AtOne {
+            node: at,
+            cause,
+            operand,
+        }),
+    }
+}
+
+/// The answer of a node whose operands, which can't fail, have these ranges.
+pub(crate) fn own_two(
+    first: Abs,
+    second: Abs,
+    range: Result<Abs, RangeCause>,
+    kind: NodeKind,
+    at: u32,
+) -> Result<Ranged, Stop>
+    requires { at + 1 < 2 ^ 32 }
+    ensures { OwnAnswer (at_node at (first ∷ second ∷ []) range) kind at result }
+{
+    match range {
+        Ok(range) => Ok(Ranged {
+            range,
+            kind,
+            next: at + 1,
+            variable: None,
+        }),
+        Err(cause) => Err(Stop::AtTwo {
+            node: at,
+            cause,
+            first,
+            second,
+        }),
+    }
 }
 
 /// That of a name, which is that of the variable of this number.
@@ -35,7 +89,7 @@ pub(crate) fn named(
     at: u32,
 ) -> Result<Ranged, Stop>
     requires { at + 1 < 2 ^ 32 }
-    ensures { NodeAnswer variable range kind at result }
+    ensures { NodeAnswer variable (at_node at [] range) kind at result }
 {
     match range {
         Ok(range) => Ok(Ranged {
@@ -51,7 +105,7 @@ pub(crate) fn named(
 /// The answer of a literal.
 pub(crate) fn literal(value: Dec, kind: NodeKind, at: u32) -> Result<Ranged, Stop>
     requires { at + 1 < 2 ^ 32 }
-    ensures { OwnAnswer (read_range kind (single value)) kind at result }
+    ensures { OwnAnswer (at_node at [] (read_range kind (single value))) kind at result }
 {
     own(read(kind, single(value)), kind, at)
 }
@@ -60,9 +114,12 @@ pub(crate) fn literal(value: Dec, kind: NodeKind, at: u32) -> Result<Ranged, Sto
 pub(crate) fn item(items: &ItemRanges, index: Ranged) -> Result<Ranged, Stop>
     requires room { index.next + 1 < 2 ^ 32 }
     requires whole { IsWhole index.range }
-    ensures { OwnAnswer (item_range items.now index.range) NodeKind.Big index.next result }
+    ensures { OwnAnswer
+        (at_node index.next (index.range ∷ []) (item_range items.now index.range))
+        NodeKind.Big index.next result }
 {
-    own(item_range(items, index.range), NodeKind::Big, index.next)
+    let range = item_range(items, index.range);
+    own_one(index.range, range, NodeKind::Big, index.next)
 }
 
 /// An operation on one operand.
@@ -72,7 +129,8 @@ pub(crate) fn one(op: One, operand: &Expr, a: Ranged) -> Result<Ranged, Stop>
     ensures { OneAnswer (one_meant op) (term_of operand.now) a result }
 {
     let kind = kind_of_one(op, a.kind);
-    own(one_range(op, kind, operand, a.range), kind, a.next)
+    let range = one_range(op, kind, operand, a.range);
+    own_one(a.range, range, kind, a.next)
 }
 
 fn kind_of_one(op: One, kind: NodeKind) -> NodeKind
@@ -95,7 +153,7 @@ pub(crate) fn two(plan: &Typed, op: Two, right: &Expr, operands: Operands) -> Re
     let Operands { first, second } = operands;
     let kind = kind_of_two(op, first.kind, second.kind);
     let range = two_range(plan, op, kind, right, first.range, second.range);
-    own(range, kind, second.next)
+    own_two(first.range, second.range, range, kind, second.next)
 }
 
 fn kind_of_two(op: Two, left: NodeKind, right: NodeKind) -> NodeKind
@@ -111,24 +169,16 @@ fn kind_of_two(op: Two, left: NodeKind, right: NodeKind) -> NodeKind
 /// A conditional with these parts.
 pub(crate) fn either(one: Part, other: Part) -> Result<Ranged, Stop>
     requires { other.next + 1 < 2 ^ 32 }
-    ensures { OwnAnswer (either_range one.range other.range) (wider one.kind other.kind)
-        other.next result }
+    ensures { OwnAnswer
+        (at_node other.next (range_list one.range other.range)
+        (either_range one.range other.range))
+        (wider one.kind other.kind) other.next result }
 {
-    own(
-        either_range(one.range, other.range),
-        one.kind.wider(other.kind),
-        other.next,
-    )
-}
-
-/// The range of what can be reached of two parts; no run comes where neither can.
-fn either_range(one: Option<Abs>, other: Option<Abs>) -> Result<Abs, RangeCause>
-    ensures { result ≡ either_range one other }
-{
-    match (one, other) {
-        (Some(a), Some(b)) => join(a, b),
-        (Some(a), None) | (None, Some(a)) => Ok(a),
-        (None, None) => Err(RangeCause::Wide),
+    let kind = one.kind.wider(other.kind);
+    match (one.range, other.range) {
+        (Some(a), Some(b)) => own_two(a, b, join(a, b), kind, other.next),
+        (Some(a), None) | (None, Some(a)) => own(Ok(a), kind, other.next),
+        (None, None) => own(Err(RangeCause::Wide), kind, other.next),
     }
 }
 

@@ -4,12 +4,13 @@ ghost use Rattle.interval_walk.specs.Analysis.{is_bounded, is_small};
 ghost use Rattle.interval_analysis.specs.private.PlanViews.{IsSized};
 ghost use Rattle.interval_analysis.specs.private.OutputViews.{OutputAnswer, bounded_outputs, outputs_in};
 
-use crate::{OutputRange, RangeFault};
+use crate::OutputRange;
+use crate::stop::WalkStop;
 use interval_num::Abs;
 use pap_tree::Declared;
 use pap_types::Typed;
 use scaled_decimal::power_of_ten;
-use std::alloc::{AllocError, Global};
+use std::alloc::Global;
 
 /// The most digits of an output after its point.
 const OUTPUT_PLACES: u8 = 12;
@@ -22,7 +23,7 @@ pub(crate) fn output_ranges(
     alloc: Global,
     plan: &Typed,
     ranges: &[Abs],
-) -> Result<Vec<OutputRange>, RangeFault>
+) -> Result<Vec<OutputRange>, WalkStop>
     requires { IsSized plan.now ranges.now }
     ensures { OutputAnswer (outputs_in plan.now ranges.now) result }
 {
@@ -39,7 +40,7 @@ fn bounded(
     alloc: Global,
     outputs: &[Declared],
     ranges: &[Abs],
-) -> Result<Vec<OutputRange>, RangeFault>
+) -> Result<Vec<OutputRange>, WalkStop>
     requires { length ranges.now ≡ length outputs.now }
     ensures { OutputAnswer (bounded_outputs outputs.now ranges.now) result }
 {
@@ -48,11 +49,11 @@ fn bounded(
         let name = outputs[i].name;
         let range = ranges[i];
         if !is_bounded(range) {
-            return Err(RangeFault::Output { name });
+            return Err(WalkStop::Output { name });
         }
         match bounded.push(OutputRange { name, range }) {
             Ok(()) => {}
-            Err(_) => return Err(RangeFault::Memory(AllocError)),
+            Err(_) => return Err(WalkStop::Memory),
         }
     }
     Ok(bounded)

@@ -6,6 +6,7 @@ ghost use Rattle.pap_tree.specs.Term.{term_of};
 ghost use Rattle.pap_types.specs.private.ScopeViews.{scope_in};
 ghost use Rattle.pap_types.specs.Checks.{place};
 ghost use Rattle.pap_types.specs.Routines.{body_named};
+ghost use Rattle.interval_num.specs.declared.cause.RangeCause.TheVariants.{Wide};
 ghost use Rattle.interval_walk.specs.Walked.{kept_range, range_kept_as};
 ghost use Rattle.interval_analysis.specs.private.Changes.{changed};
 ghost use Rattle.interval_analysis.specs.private.PlanViews.{ranges_in, branches_in};
@@ -14,12 +15,12 @@ ghost use Rattle.interval_analysis.specs.private.VisitViews.{ComesIn, ComesInBot
 ghost use Rattle.pap_tree.specs.private.TreeViews.{if_of, methods_in};
 ghost use Rattle.interval_analysis.specs.private.StatementViews.{CanWalkBody, CanWalkLists, CanAssign, CanPut, CanKeep, IsMethodBody, Passes, EnvAnswer, through_body, through_if, through_fork, through_first, through_second, through_both, evaluated, executed, assigned_in, fault_of, first_spot, second_spot};
 
-use crate::RangeFault;
 use crate::branches::{Branches, Change};
 use crate::conditions::Tested;
 use crate::expressions::{Stop, Walk};
 use crate::joins::meet;
 use crate::lists::written;
+use crate::stop::WalkStop;
 use crate::variables::Variables;
 use crate::visits::Visits;
 use crate::weights::weight;
@@ -60,7 +61,7 @@ impl Walk<'_> {
         body: &[Stmt],
         variables: &mut Variables,
         visits: &mut Visits,
-    ) -> Result<u32, RangeFault>
+    ) -> Result<u32, WalkStop>
         requires walk { CanWalkBody self.now (body_of body.now) spot.at }
         requires held { AreHeld self.now.plan.now variables.old }
         ensures passes { Passes (through_body self.now spot (body_of body.now) variables.old.ranges.items)
@@ -87,7 +88,7 @@ impl Walk<'_> {
         stmt: &Stmt,
         variables: &mut Variables,
         visits: &mut Visits,
-    ) -> Result<u32, RangeFault>
+    ) -> Result<u32, WalkStop>
         requires walk { CanWalkBody self.now (stmt_then stmt.now done) spot.at }
         requires held { AreHeld self.now.plan.now variables.old }
         ensures passes { Passes (through_body self.now spot (stmt_then stmt.now done) variables.old.ranges.items)
@@ -122,7 +123,7 @@ impl Walk<'_> {
         value: &Expr,
         variables: &mut Variables,
         visits: &mut Visits,
-    ) -> Result<(), RangeFault>
+    ) -> Result<(), WalkStop>
         requires walk { CanAssign self.now target.now value.now }
         requires held { AreHeld self.now.plan.now variables.old }
         ensures passes { EnvAnswer self.now (evaluated self.now spot target.now value.now variables.old.ranges.items)
@@ -177,7 +178,7 @@ impl Walk<'_> {
         no: &'b [Stmt],
         variables: &mut Variables,
         visits: &mut Visits,
-    ) -> Result<u32, RangeFault>
+    ) -> Result<u32, WalkStop>
         requires walk { CanWalkBody self.now (if_of test.now yes.now no.now) spot.at }
         requires held { AreHeld self.now.plan.now variables.old }
         ensures passes { Passes (through_if self.now spot test.now yes.now no.now variables.old.ranges.items)
@@ -208,7 +209,7 @@ impl Walk<'_> {
         branches: Branches,
         variables: &mut Variables,
         visits: &mut Visits,
-    ) -> Result<u32, RangeFault>
+    ) -> Result<u32, WalkStop>
         requires walk { CanWalkLists self.now spot fork.now }
         requires held { AreHeld self.now.plan.now variables.old }
         ensures passes { Passes (through_fork self.now spot fork.now
@@ -223,7 +224,7 @@ impl Walk<'_> {
         let Branches { holds, fails } = branches;
         match holds {
             None => match fails {
-                None => Err(fault_at(spot, fork.root, RangeCause::Wide)),
+                None => Err(nowhere_at(spot, fork.root)),
                 Some(failed) => self.walk_second(spot, fork, &failed, variables, visits),
             },
             Some(held) => match fails {
@@ -242,7 +243,7 @@ impl Walk<'_> {
         held: &[Change],
         variables: &mut Variables,
         visits: &mut Visits,
-    ) -> Result<u32, RangeFault>
+    ) -> Result<u32, WalkStop>
         requires walk { CanWalkLists self.now spot fork.now }
         requires held { AreHeld self.now.plan.now variables.old }
         ensures passes { Passes (through_first self.now spot fork.now (changed variables.old.ranges.items held.now))
@@ -268,7 +269,7 @@ impl Walk<'_> {
         failed: &[Change],
         variables: &mut Variables,
         visits: &mut Visits,
-    ) -> Result<u32, RangeFault>
+    ) -> Result<u32, WalkStop>
         requires walk { CanWalkLists self.now spot fork.now }
         requires held { AreHeld self.now.plan.now variables.old }
         ensures passes { Passes (through_second self.now spot fork.now (changed variables.old.ranges.items failed.now))
@@ -296,7 +297,7 @@ impl Walk<'_> {
         changes: &[Change],
         variables: &mut Variables,
         visits: &mut Visits,
-    ) -> Result<u32, RangeFault>
+    ) -> Result<u32, WalkStop>
         requires walk { CanWalkBody self.now (body_of body.now) spot.at }
         requires held { AreHeld self.now.plan.now variables.old }
         ensures passes { Passes (through_body self.now spot (body_of body.now)
@@ -323,7 +324,7 @@ impl Walk<'_> {
         failed: &[Change],
         variables: &mut Variables,
         visits: &mut Visits,
-    ) -> Result<u32, RangeFault>
+    ) -> Result<u32, WalkStop>
         requires walk { CanWalkLists self.now spot fork.now }
         requires held { AreHeld self.now.plan.now variables.old }
         ensures passes { Passes
@@ -359,7 +360,7 @@ impl Walk<'_> {
         failed: &[Change],
         variables: &mut Variables,
         visits: &mut Visits,
-    ) -> Result<u32, RangeFault>
+    ) -> Result<u32, WalkStop>
         requires walk { CanWalkLists self.now spot fork.now }
         requires held { AreHeld self.now.plan.now variables.old }
         ensures passes { Passes
@@ -399,7 +400,7 @@ impl Walk<'_> {
         failed: &[Change],
         variables: &mut Variables,
         visits: &mut Visits,
-    ) -> Result<u32, RangeFault>
+    ) -> Result<u32, WalkStop>
         requires walk { CanWalkLists self.now spot fork.now }
         requires held { AreHeld self.now.plan.now variables.old }
         ensures passes { Passes
@@ -441,7 +442,7 @@ impl Walk<'_> {
         chain: u32,
         variables: &mut Variables,
         visits: &mut Visits,
-    ) -> Result<(), RangeFault>
+    ) -> Result<(), WalkStop>
         requires { AreHeld self.now.plan.now variables.old }
         ensures passes { EnvAnswer self.now (executed self.now name.now chain variables.old.ranges.items)
             variables.new.ranges.items result }
@@ -457,7 +458,7 @@ impl Walk<'_> {
             chain,
         };
         if chain == 0 {
-            return Err(fault_at(start, 0, RangeCause::Wide));
+            return Err(nowhere_at(start, 0));
         }
         match method_body(self.plan.typed(), name) {
             Some(body) => {
@@ -468,7 +469,7 @@ impl Walk<'_> {
                 self.walk_body(within, body, variables, visits)?;
                 Ok(())
             }
-            None => Err(fault_at(start, 0, RangeCause::Wide)),
+            None => Err(nowhere_at(start, 0)),
         }
     }
 }
@@ -521,25 +522,55 @@ fn at_three_places(range: Abs) -> Abs
 }
 
 /// The fault of an expression's node at its statement.
-fn fault_of(stop: Stop, spot: Spot) -> RangeFault
+fn fault_of(stop: Stop, spot: Spot) -> WalkStop
     ensures { result ≡ fault_of stop spot }
 {
     match stop {
-        Stop::At { node, cause } => fault_at(spot, node, cause),
-        Stop::Memory => RangeFault::Memory(AllocError),
+        Stop::At { node, cause } => WalkStop::At {
+            place: place_at(spot, node),
+            cause,
+        },
+        Stop::AtOne {
+            node,
+            cause,
+            operand,
+        } => WalkStop::AtOne {
+            place: place_at(spot, node),
+            cause,
+            operand,
+        },
+        Stop::AtTwo {
+            node,
+            cause,
+            first,
+            second,
+        } => WalkStop::AtTwo {
+            place: place_at(spot, node),
+            cause,
+            first,
+            second,
+        },
+        Stop::Memory => WalkStop::Memory,
     }
 }
 
-fn fault_at(spot: Spot, node: u32, cause: RangeCause) -> RangeFault
-    ensures { result ≡ RangeFault.At (place spot.method spot.at node) cause }
+/// That a node can't be walked.
+fn nowhere_at(spot: Spot, node: u32) -> WalkStop
+    ensures { result ≡ WalkStop.At (place spot.method spot.at node) Wide }
+{
+    WalkStop::At {
+        place: place_at(spot, node),
+        cause: RangeCause::Wide,
+    }
+}
+
+fn place_at(spot: Spot, node: u32) -> Place
+    ensures { result ≡ place spot.method spot.at node }
 {
     let Spot { method, at, .. } = spot;
-    RangeFault::At {
-        place: Place {
-            method,
-            stmt: at,
-            node,
-        },
-        cause,
+    Place {
+        method,
+        stmt: at,
+        node,
     }
 }

@@ -34,7 +34,7 @@ impl ValueRange {
     }
 
     /// The least range in which both lie.
-    pub(crate) fn joined(&self, other: &ValueRange) -> ValueRange
+    pub fn joined(&self, other: &ValueRange) -> ValueRange
         ensures { IsLeastRange (λ r. (self.now ≡ r) ⊎ (other.now ≡ r)) result }
     {
         ValueRange {

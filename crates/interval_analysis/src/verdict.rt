@@ -1,5 +1,6 @@
 //! What the analysis answers.
 
+use crate::fault::RangeFault;
 use crate::value_range::ValueRange;
 use interval_num::Abs;
 use pap_tree::Name;
@@ -34,4 +35,15 @@ pub struct Survey {
     pub values: BTreeMap<(Name, u32), ValueRange>,
     /// The exits of IFs that are open at some visit, each by the IF's method, its number there, and whether the test holds.
     pub exits: BTreeSet<(Name, u32, bool)>,
+}
+
+/// Why a plan has no survey.
+#[derive(Drop)]
+pub struct RefusedSurvey {
+    /// Why its ranges are refused; `Memory` also where memory runs out for the list below.
+    pub fault: RangeFault,
+    /// Of a fault at a node the ranges of the values that its operands have there, from the left: one of an item's index or of the
+    /// only operand, two of both operands, of the sides of a comparison or of the parts of a conditional. Empty where a leaf fails
+    /// or two branches of an IF don't meet, and where the fault has no node.
+    pub operands: Vec<ValueRange>,
 }

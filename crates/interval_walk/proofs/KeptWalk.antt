@@ -207,9 +207,9 @@ module _ (scope : Scope) (P : NamedRange → Type 0) (narrows : (v : NamedRange)
   tested_kept (two (operator op) s t) at rs br w e =
       let node = at + nodes s + nodes t in
       let answer = λ (a b : Interval). compared op (are_whole scope s t) (sides s t a b) (compare_sides scope s at rs) (int_literal t) rs in
-      let a = stepped (ranged scope s at rs) (λ a. and_then (ranged scope t (at + nodes s) rs) (λ b. and_then (at_node node (comparison_range op a b)) (λ r. Ok (answer a b)))) br e in
-      let b = stepped (ranged scope t (at + nodes s) rs) (λ b. and_then (at_node node (comparison_range op a.0 b)) (λ r. Ok (answer a.0 b))) br a.2 in
-      let r = stepped (at_node node (comparison_range op a.0 b.0)) (λ r. Ok (answer a.0 b.0)) br b.2 in
+      let a = stepped (ranged scope s at rs) (λ a. and_then (ranged scope t (at + nodes s) rs) (λ b. and_then (at_node node (a ∷ b ∷ []) (comparison_range op a b)) (λ r. Ok (answer a b)))) br e in
+      let b = stepped (ranged scope t (at + nodes s) rs) (λ b. and_then (at_node node (a.0 ∷ b ∷ []) (comparison_range op a.0 b)) (λ r. Ok (answer a.0 b))) br a.2 in
+      let r = stepped (at_node node (a.0 ∷ b.0 ∷ []) (comparison_range op a.0 b.0)) (λ r. Ok (answer a.0 b.0)) br b.2 in
       let same : answer a.0 b.0 ≡ br = let f = r.2 in cc in
       subst (BranchesKept P) same (compared_kept op (are_whole scope s t) (sides s t a.0 b.0) (compare_sides scope s at rs) (int_literal t) rs w)
   tested_kept _ at rs br w e = absurd (cc)
@@ -256,7 +256,7 @@ module _ (scope : Scope) (P : NamedRange → Type 0) (narrows : (v : NamedRange)
           let behind : VariablesKept names P (assigned_range scope x a.0 rs) = record { named = put_names rs x _ ∙ h.named; ranges = assigns x t rs a.0 typed.0 typed.1 small.0.scales h.named h.ranges given } in
           walked_kept rest (at + 1) (assigned_range scope x a.0 rs) z typed.2 small.1 behind a.2
       walked_kept (branch t a b rest) at rs z typed small h e =
-          let none = node_fails (place name at (last_node t)) Wide in
+          let none = node_fails (place name at (last_node t)) Wide [] in
           let first = walked scope call name (at + 1) a in
           let second = walked scope call name (at + 1 + written a) b in
           let go = walked scope call name (at + 1 + written a + written b) rest in

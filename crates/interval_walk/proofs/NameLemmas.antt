@@ -187,9 +187,9 @@ module _ (scope : Scope) where
   tested_named (two (operator op) s t) at rs br e =
       let node = at + nodes s + nodes t in
       let answer = λ (a b : Interval). compared op (are_whole scope s t) (sides s t a b) (compare_sides scope s at rs) (int_literal t) rs in
-      let a = stepped (ranged scope s at rs) (λ a. and_then (ranged scope t (at + nodes s) rs) (λ b. and_then (at_node node (comparison_range op a b)) (λ r. Ok (answer a b)))) br e in
-      let b = stepped (ranged scope t (at + nodes s) rs) (λ b. and_then (at_node node (comparison_range op a.0 b)) (λ r. Ok (answer a.0 b))) br a.2 in
-      let r = stepped (at_node node (comparison_range op a.0 b.0)) (λ r. Ok (answer a.0 b.0)) br b.2 in
+      let a = stepped (ranged scope s at rs) (λ a. and_then (ranged scope t (at + nodes s) rs) (λ b. and_then (at_node node (a ∷ b ∷ []) (comparison_range op a b)) (λ r. Ok (answer a b)))) br e in
+      let b = stepped (ranged scope t (at + nodes s) rs) (λ b. and_then (at_node node (a.0 ∷ b ∷ []) (comparison_range op a.0 b)) (λ r. Ok (answer a.0 b))) br a.2 in
+      let r = stepped (at_node node (a.0 ∷ b.0 ∷ []) (comparison_range op a.0 b.0)) (λ r. Ok (answer a.0 b.0)) br b.2 in
       let same : answer a.0 b.0 ≡ br = let f = r.2 in cc in
       subst (BranchesNamed rs) same (compared_named op (are_whole scope s t) (sides s t a.0 b.0) (compare_sides scope s at rs) (int_literal t) rs)
   tested_named _ at rs br e = absurd (cc)
@@ -210,17 +210,17 @@ pub passed_stmt : {A : Type 0} (name : List ℕ) (at : ℕ) (r : Result A NodeFa
 passed_stmt name at (Ok x) a e = let same : x ≡ a = cc in ap Ok same
 passed_stmt name at (Err f) a e = absurd (cc)
 
-pub passed_join : (at : ℕ) (r : Result Ranges RangeCause) (a : Ranges) → at_node at r ≡ Ok a → r ≡ Ok a
+pub passed_join : (at : ℕ) (r : Result Ranges RangeCause) (a : Ranges) → at_node at [] r ≡ Ok a → r ≡ Ok a
 passed_join at (Ok x) a e = let same : x ≡ a = cc in ap Ok same
 passed_join at (Err c) a e = absurd (cc)
 
 -- both branches, up to where they meet
 module _ (name : List ℕ) (at node : ℕ) where
   abbrev pub meet : Ranges → Ranges → Result Ranges WalkFault
-  meet x y = at_stmt name at (at_node node (joined x y))
+  meet x y = at_stmt name at (at_node node [] (joined x y))
 
   pub met : (x y z : Ranges) → meet x y ≡ Ok z → joined x y ≡ Ok z
-  met x y z e = passed_join node (joined x y) z (passed_stmt name at (at_node node (joined x y)) z e)
+  met x y z e = passed_join node (joined x y) z (passed_stmt name at (at_node node [] (joined x y)) z e)
 
   either_named : (none : WalkFault) (first second : Ranges → Result Ranges WalkFault) (rs z : Ranges) (o p : Option Ranges) → StayNamed rs o → StayNamed rs p → ((s u : Ranges) → first s ≡ Ok u → names_in u ≡ names_in s) → ((s u : Ranges) → second s ≡ Ok u → names_in u ≡ names_in s) → either_way none first second meet o p ≡ Ok z → names_in z ≡ names_in rs
   either_named none first second rs z None None ho hp hf hs e = absurd (cc)
@@ -242,7 +242,7 @@ module _ (scope : Scope) (call : RangeCalls) (name : List ℕ) (hc : CallsStayNa
       let a = stepped (at_stmt name at (ranged scope t 0 rs)) (λ a. walked scope call name (at + 1) rest (assigned_range scope x a rs)) z e in
       walked_named rest (at + 1) (assigned_range scope x a.0 rs) z a.2 ∙ put_names rs x _
   walked_named (branch t a b rest) at rs z e =
-      let none = node_fails (place name at (last_node t)) Wide in
+      let none = node_fails (place name at (last_node t)) Wide [] in
       let first = walked scope call name (at + 1) a in
       let second = walked scope call name (at + 1 + written a) b in
       let after = walked scope call name (at + 1 + written a + written b) rest in

@@ -1,5 +1,5 @@
 -- The range of an expression of a typed plan has the shape of its kind, whatever the ranges of the variables.
-use Rattle.std.proofs.Common.{◌≡◌, ℕ, ◌+◌, ◌≤◌, ℤ, neg_ℤ, [], ◌∷◌, true, Option, Some, None, Result, Ok, Err, refl, sym, ap, subst, arith}
+use Rattle.std.proofs.Common.{◌≡◌, ℕ, ◌+◌, ◌≤◌, ℤ, neg_ℤ, List, [], ◌∷◌, true, Option, Some, None, Result, Ok, Err, refl, sym, ap, subst, arith}
 use Rattle.std.specs.Prelude.{⊤}
 use Rattle.scaled_decimal.specs.Decimals.{Decimal, scale_of, numerator_of}
 use Rattle.scaled_decimal.specs.Limits.{most_places}
@@ -40,9 +40,9 @@ pub stepped : {A B E : Type 0} (r : Result A E) (go : A → Result B E) (b : B) 
 stepped (Ok a) go b e = (a, refl, e)
 stepped (Err f) go b e = absurd (cc)
 
-pub passed_node : {A : Type 0} (at : ℕ) (r : Result A RangeCause) (a : A) → at_node at r ≡ Ok a → r ≡ Ok a
-passed_node at (Ok x) a e = let same : x ≡ a = cc in ap Ok same
-passed_node at (Err c) a e = absurd (cc)
+pub passed_node : {A : Type 0} (at : ℕ) (operands : List Interval) (r : Result A RangeCause) (a : A) → at_node at operands r ≡ Ok a → r ≡ Ok a
+passed_node at _ (Ok x) a e = let same : x ≡ a = cc in ap Ok same
+passed_node at _ (Err c) a e = absurd (cc)
 
 -- ---- leaves
 
@@ -62,7 +62,7 @@ IsPointOf _ a = ⊤
 
 pub point_of : (scope : Scope) (e : Term) (at : ℕ) (env : Ranges) (a : Interval) → ranged scope e at env ≡ Ok a → IsPointOf e a
 point_of scope (leaf (point d)) at env a h =
-    let e = (leaf_shape scope (point d) env a (passed_node at (leaf_range scope (point d) env) a h)).0 in
+    let e = (leaf_shape scope (point d) env a (passed_node at _ (leaf_range scope (point d) env) a h)).0 in
     let same : single d ≡ a = cc in
     sym same
 point_of scope (leaf l) at env a h = tt
@@ -134,37 +134,37 @@ two_shape scope (divide s mode) e f j k a b r t keeps ha hb g = quotient_shape m
 
 module _ (scope : Scope) where
   -- what comes of either part
-  choice_shape : (j k : NodeKind) (none : NodeFault) (at : ℕ) (first second : Ranges → Result Interval NodeFault) (o p : Option Ranges) (r : Interval) → are_parts j k ≡ true → ((s : Ranges) (a : Interval) → first s ≡ Ok a → HasShape j a) → ((s : Ranges) (b : Interval) → second s ≡ Ok b → HasShape k b) → either_way none first second (λ a b. at_node at (join_row a b)) o p ≡ Ok r → HasShape (wider j k) r
+  choice_shape : (j k : NodeKind) (none : NodeFault) (at : ℕ) (first second : Ranges → Result Interval NodeFault) (o p : Option Ranges) (r : Interval) → are_parts j k ≡ true → ((s : Ranges) (a : Interval) → first s ≡ Ok a → HasShape j a) → ((s : Ranges) (b : Interval) → second s ≡ Ok b → HasShape k b) → either_way none first second (λ a b. at_node at (a ∷ b ∷ []) (join_row a b)) o p ≡ Ok r → HasShape (wider j k) r
   choice_shape j k none at first second None None r fit ha hb e = absurd (cc)
   choice_shape j k none at first second (Some s) None r fit ha hb e = first_shape j k fit r (ha s r e)
   choice_shape j k none at first second None (Some s) r fit ha hb e = second_shape j k fit r (hb s r e)
   choice_shape j k none at first second (Some s) (Some t) r fit ha hb e =
-      let x = stepped (first s) (λ a. and_then (second t) (λ b. at_node at (join_row a b))) r e in
-      let y = stepped (second t) (λ b. at_node at (join_row x.0 b)) r x.2 in
-      join_shape j k fit x.0 y.0 r (ha s x.0 x.1) (hb t y.0 y.1) (passed_node at (join_row x.0 y.0) r y.2)
+      let x = stepped (first s) (λ a. and_then (second t) (λ b. at_node at (a ∷ b ∷ []) (join_row a b))) r e in
+      let y = stepped (second t) (λ b. at_node at (x.0 ∷ b ∷ []) (join_row x.0 b)) r x.2 in
+      join_shape j k fit x.0 y.0 r (ha s x.0 x.1) (hb t y.0 y.1) (passed_node at _ (join_row x.0 y.0) r y.2)
 
   pub ranged_shape : (t : Term) (at : ℕ) (env : Ranges) (r : Interval) → IsTypedTerm scope t → KeepsScales t → ranged scope t at env ≡ Ok r → HasShape (kind_of scope t) r
-  ranged_shape (leaf l) at env r typed keeps e = (leaf_shape scope l env r (passed_node at (leaf_range scope l env) r e)).1
+  ranged_shape (leaf l) at env r typed keeps e = (leaf_shape scope l env r (passed_node at _ (leaf_range scope l env) r e)).1
   ranged_shape (item x i) at env r typed keeps e =
-      let a = stepped (ranged scope i at env) (λ a. at_node (at + nodes i) (item_range (table_in scope x) a)) r e in
-      (read_item_shape (item_row (table_in scope x) a.0) r (passed_node (at + nodes i) (item_range (table_in scope x) a.0) r a.2)).1
+      let a = stepped (ranged scope i at env) (λ a. at_node (at + nodes i) (a ∷ []) (item_range (table_in scope x) a)) r e in
+      (read_item_shape (item_row (table_in scope x) a.0) r (passed_node (at + nodes i) _ (item_range (table_in scope x) a.0) r a.2)).1
   ranged_shape (one op t) at env r typed keeps e =
       let k = kind_of scope t in
-      let a = stepped (ranged scope t at env) (λ a. at_node (at + nodes t) (one_range op (kind_of_one op k) t a)) r e in
+      let a = stepped (ranged scope t at env) (λ a. at_node (at + nodes t) (a ∷ []) (one_range op (kind_of_one op k) t a)) r e in
       let h = ranged_shape t at env a.0 typed.0 keeps.1 a.1 in
-      one_shape op k t a.0 r typed.1 keeps.0 keeps.1 (point_of scope t at env a.0 a.1) h (passed_node (at + nodes t) (one_range op (kind_of_one op k) t a.0) r a.2)
+      one_shape op k t a.0 r typed.1 keeps.0 keeps.1 (point_of scope t at env a.0 a.1) h (passed_node (at + nodes t) _ (one_range op (kind_of_one op k) t a.0) r a.2)
   ranged_shape (two op s t) at env r typed keeps e =
       let j = kind_of scope s in
       let k = kind_of scope t in
       let node = at + nodes s + nodes t in
-      let a = stepped (ranged scope s at env) (λ a. and_then (ranged scope t (at + nodes s) env) (λ b. at_node node (two_range scope op (kind_of_two op j k) t a b))) r e in
-      let b = stepped (ranged scope t (at + nodes s) env) (λ b. at_node node (two_range scope op (kind_of_two op j k) t a.0 b)) r a.2 in
-      two_shape scope op s t j k a.0 b.0 r typed.2 keeps.0 (ranged_shape s at env a.0 typed.0 keeps.1 a.1) (ranged_shape t (at + nodes s) env b.0 typed.1 keeps.2 b.1) (passed_node node (two_range scope op (kind_of_two op j k) t a.0 b.0) r b.2)
+      let a = stepped (ranged scope s at env) (λ a. and_then (ranged scope t (at + nodes s) env) (λ b. at_node node (a ∷ b ∷ []) (two_range scope op (kind_of_two op j k) t a b))) r e in
+      let b = stepped (ranged scope t (at + nodes s) env) (λ b. at_node node (a.0 ∷ b ∷ []) (two_range scope op (kind_of_two op j k) t a.0 b)) r a.2 in
+      two_shape scope op s t j k a.0 b.0 r typed.2 keeps.0 (ranged_shape s at env a.0 typed.0 keeps.1 a.1) (ranged_shape t (at + nodes s) env b.0 typed.1 keeps.2 b.1) (passed_node node _ (two_range scope op (kind_of_two op j k) t a.0 b.0) r b.2)
   ranged_shape (choice c s t) at env r typed keeps e =
       let node = at + nodes c + nodes s + nodes t in
       let first = ranged scope s (at + nodes c) in
       let second = ranged scope t (at + nodes c + nodes s) in
-      let br = stepped (tested scope c at env) (λ br. either_way (nowhere node) first second (λ a b. at_node node (join_row a b)) br.holds br.fails) r e in
+      let br = stepped (tested scope c at env) (λ br. either_way (nowhere node) first second (λ a b. at_node node (a ∷ b ∷ []) (join_row a b)) br.holds br.fails) r e in
       choice_shape (kind_of scope s) (kind_of scope t) (nowhere node) node first second br.0.holds br.0.fails r typed.3.parts
       (λ env a f. ranged_shape s (at + nodes c) env a typed.1 keeps.1 f)
       (λ env b f. ranged_shape t (at + nodes c + nodes s) env b typed.2 keeps.2 f)

@@ -53,17 +53,17 @@ at_turn : {A B : Type 0} (name : List ℕ) (at : ℕ) (r : Result A NodeFault) (
     → InTurn (AtStatement name at First x) r Next
 at_turn name at (Ok a) go x First Next e first next = inr (next a refl e)
 at_turn name at (Err y) go x First Next e first next =
-    let same : node_fails (place name at y.node) y.cause ≡ x = cc in inl (y, first y refl, sym same)
+    let same : node_fails (place name at y.node) y.cause y.operands ≡ x = cc in inl (y, first y refl, sym same)
 
 -- what is only kept behind a step doesn't refuse
 kept_step : {A B E : Type 0} (r : Result A E) (keep : A → B) (x : E) → and_then r (λ a. Ok (keep a)) ≡ Err x → r ≡ Err x
 kept_step (Ok a) keep x e = absurd (cc)
 kept_step (Err y) keep x e = let same : y ≡ x = cc in ap Err same
 
-node_passed : {A : Type 0} (node : ℕ) (r : Result A RangeCause) (a : A) (x : NodeFault) → r ≡ Ok a
-    → at_node node r ≡ Err x → ⊥
-node_passed node (Ok b) a x p e = absurd (cc)
-node_passed node (Err c) a x p e = absurd (cc)
+node_passed : {A : Type 0} (node : ℕ) (operands : List Interval) (r : Result A RangeCause) (a : A) (x : NodeFault)
+    → r ≡ Ok a → at_node node operands r ≡ Err x → ⊥
+node_passed node _ (Ok b) a x p e = absurd (cc)
+node_passed node _ (Err c) a x p e = absurd (cc)
 
 module _ {A E : Type 0} (none : E) (first second : Ranges → Result A E) (meets : A → A → Result A E) (x : E)
     (First Second : Ranges → Type 0) (Meet : A → A → Type 0) where
@@ -108,12 +108,13 @@ there P o s h e = subst (λ p. IfSome p P) e h
 
 item_refused : (items : List Decimal) (i : Interval) (node : ℕ) (x : NodeFault)
     → ((r : Interval) → item_row items i ≡ Ok r → item_range items i ≡ Ok r)
-    → at_node node (item_range items i) ≡ Err x → at_node node (item_row items i) ≡ Err x
+    → at_node node (i ∷ []) (item_range items i) ≡ Err x → at_node node (i ∷ []) (item_row items i) ≡ Err x
 item_refused items i node x reads e = by_row (item_row items i) refl e
   where
-    by_row : (o : RowAnswer) → item_row items i ≡ o → at_node node (read_item o) ≡ Err x → at_node node o ≡ Err x
+    by_row : (o : RowAnswer) → item_row items i ≡ o → at_node node (i ∷ []) (read_item o) ≡ Err x
+        → at_node node (i ∷ []) o ≡ Err x
     by_row (Ok r) k m =
-        absurd (node_passed node (read_item (Ok r)) r x (subst (λ o. read_item o ≡ Ok r) k (reads r k)) m)
+        absurd (node_passed node _ (read_item (Ok r)) r x (subst (λ o. read_item o ≡ Ok r) k (reads r k)) m)
     by_row (Err c) k m = m
 
 module _ (f : Flowchart) (typed : IsWellTyped f) (counts : IsWithinCounts f) (numbers : HoldsPlan f) where
@@ -131,33 +132,33 @@ module _ (f : Flowchart) (typed : IsWellTyped f) (counts : IsWithinCounts f) (nu
         → RowRefuses (scope_of f) t at rs x
     row_refuses (leaf l) at rs x it keeps held w h e =
         let r = reads_term f typed counts numbers (leaf l) rs it keeps held h in
-        absurd (node_passed at (leaf_range (scope_of f) l rs) r.range x r.passes e)
+        absurd (node_passed at _ (leaf_range (scope_of f) l rs) r.range x r.passes e)
     row_refuses (item y t) at rs x it keeps held w h e =
         let r = reads_term f typed counts numbers (item y t) rs it keeps held h in
         in_turn (ranged (scope_of f) t at rs)
-        (λ i. at_node (at + nodes t) (item_range (table_in (scope_of f) y) i)) x _ _ e
+        (λ i. at_node (at + nodes t) (i ∷ []) (item_range (table_in (scope_of f) y) i)) x _ _ e
         (λ k. row_refuses t at rs x it.0 keeps held w h k)
         (λ i k m. item_refused (table_in (scope_of f) y) i (at + nodes t) x (r.1 i) m)
     row_refuses (one op t) at rs x it keeps held w h e =
         in_turn (ranged (scope_of f) t at rs)
-        (λ a. at_node (at + nodes t) (one_range op (kind_of (scope_of f) (one op t)) t a)) x _ _ e
+        (λ a. at_node (at + nodes t) (a ∷ []) (one_range op (kind_of (scope_of f) (one op t)) t a)) x _ _ e
         (λ k. row_refuses t at rs x it.0 keeps.1 held w.0 h k)
         (λ a k m. m)
     row_refuses (two op s t) at rs x it keeps held w h e =
         let node = at + nodes s + nodes t in
         let row = two_range (scope_of f) op (kind_of (scope_of f) (two op s t)) t in
         in_turn (ranged (scope_of f) s at rs)
-        (λ a. and_then (ranged (scope_of f) t (at + nodes s) rs) (λ b. at_node node (row a b))) x _ _ e
+        (λ a. and_then (ranged (scope_of f) t (at + nodes s) rs) (λ b. at_node node (a ∷ b ∷ []) (row a b))) x _ _ e
         (λ k. row_refuses s at rs x it.0 keeps.1 held.0 w.0 h k)
         (λ a k m.
-        in_turn (ranged (scope_of f) t (at + nodes s) rs) (λ b. at_node node (row a b)) x _ _ m
+        in_turn (ranged (scope_of f) t (at + nodes s) rs) (λ b. at_node node (a ∷ b ∷ []) (row a b)) x _ _ m
         (λ l. row_refuses t (at + nodes s) rs x it.1 keeps.2 held.1 w.1 h l)
         (λ b l n. n))
     row_refuses (choice c s t) at rs x it keeps held w h e =
         let node = at + nodes c + nodes s + nodes t in
         let first = ranged (scope_of f) s (at + nodes c) in
         let second = ranged (scope_of f) t (at + nodes c + nodes s) in
-        let joins = λ (a b : Interval). at_node node (join_row a b) in
+        let joins = λ (a b : Interval). at_node node (a ∷ b ∷ []) (join_row a b) in
         in_turn (tested (scope_of f) c at rs)
         (λ br. either_way (nowhere node) first second joins br.holds br.fails) x _ _ e
         (λ k. test_refuses c at rs x it.0 keeps.0 held.0 w.0 h k)
@@ -197,13 +198,14 @@ module _ (f : Flowchart) (typed : IsWellTyped f) (counts : IsWithinCounts f) (nu
         let inner = compare_sides scope s at rs in
         let answer = λ (a b : Interval).
         compared op (are_whole scope s t) (sides s t a b) inner (int_literal t) rs in
-        let go = λ (a b : Interval). and_then (at_node node (comparison_range op a b)) (λ r. Ok (answer a b)) in
+        let go = λ (a b : Interval).
+        and_then (at_node node (a ∷ b ∷ []) (comparison_range op a b)) (λ r. Ok (answer a b)) in
         in_turn (ranged scope s at rs) (λ a. and_then (ranged scope t (at + nodes s) rs) (go a)) x _ _ e
         (λ k. row_refuses s at rs x it.0 keeps.1 held.0 w.0 h k)
         (λ a k m.
         in_turn (ranged scope t (at + nodes s) rs) (go a) x _ _ m
         (λ l. row_refuses t (at + nodes s) rs x it.1 keeps.2 held.1 w.1 h l)
-        (λ b l n. kept_step (at_node node (comparison_range op a b)) (λ r. answer a b) x n))
+        (λ b l n. kept_step (at_node node (a ∷ b ∷ []) (comparison_range op a b)) (λ r. answer a b) x n))
     test_refuses _ at rs x it keeps held w h e = absurd w
 
   -- ---- statements
@@ -219,7 +221,7 @@ module _ (f : Flowchart) (typed : IsWellTyped f) (counts : IsWithinCounts f) (nu
       }
 
 -- where two lists of the same variables aren't joined, some two of their ranges aren't
-join_refuses : (node : ℕ) (u v : Ranges) (y : NodeFault) → names_in u ≡ names_in v → at_node node (joined u v) ≡ Err y
+join_refuses : (node : ℕ) (u v : Ranges) (y : NodeFault) → names_in u ≡ names_in v → at_node node [] (joined u v) ≡ Err y
     → JoinRefuses node u v y
 join_refuses node [] [] y n e = absurd (cc)
 join_refuses node [] (w ∷ ws) y n e = absurd (cc)
@@ -229,22 +231,22 @@ join_refuses node (r ∷ rs) (s ∷ ss) y n e =
     by_row (join_row r.range s.range) (joined rs ss) e (join_refuses node rs ss y rest)
   where
     by_row : (o : RowAnswer) (p : Result Ranges RangeCause)
-        → at_node node (and_then o (λ a. and_then p (λ z. Ok (record r { range = a } ∷ z)))) ≡ Err y
-        → (at_node node p ≡ Err y → JoinRefuses node rs ss y)
-        → (at_node node o ≡ Err y) ⊎ JoinRefuses node rs ss y
-    by_row (Err c) p g later = let same : record { node = node; cause = c } ≡ y = cc in inl (ap Err same)
-    by_row (Ok a) (Err c) g later = let same : record { node = node; cause = c } ≡ y = cc in inr (later (ap Err same))
+        → at_node node [] (and_then o (λ a. and_then p (λ z. Ok (record r { range = a } ∷ z)))) ≡ Err y
+        → (at_node node [] p ≡ Err y → JoinRefuses node rs ss y)
+        → (at_node node [] o ≡ Err y) ⊎ JoinRefuses node rs ss y
+    by_row (Err c) p g later = let same : record { node = node; cause = c; operands = [] } ≡ y = cc in inl (ap Err same)
+    by_row (Ok a) (Err c) g later = let same : record { node = node; cause = c; operands = [] } ≡ y = cc in inr (later (ap Err same))
     by_row (Ok a) (Ok z) g later = absurd (cc)
 
 meet_refuses : (name : List ℕ) (at node : ℕ) (u v : Ranges) (x : WalkFault) → names_in u ≡ names_in v
     → meet name at node u v ≡ Err x → AtStatement name at (JoinRefuses node u v) x
-meet_refuses name at node u v x n e = by_join (at_node node (joined u v)) refl e
+meet_refuses name at node u v x n e = by_join (at_node node [] (joined u v)) refl e
   where
-    by_join : (o : Result Ranges NodeFault) → at_node node (joined u v) ≡ o → at_stmt name at o ≡ Err x
+    by_join : (o : Result Ranges NodeFault) → at_node node [] (joined u v) ≡ o → at_stmt name at o ≡ Err x
         → AtStatement name at (JoinRefuses node u v) x
     by_join (Ok z) k g = absurd (cc)
     by_join (Err y) k g =
-        let same : node_fails (place name at y.node) y.cause ≡ x = cc in
+        let same : node_fails (place name at y.node) y.cause y.operands ≡ x = cc in
         (y, join_refuses node u v y n k, sym same)
 
 branch_turn : (name : List ℕ) (at : ℕ) (r : Result Branches NodeFault) (either : Branches → Result Ranges WalkFault)
@@ -256,7 +258,7 @@ branch_turn : (name : List ℕ) (at : ℕ) (r : Result Branches NodeFault) (eith
     → InTurn (InTurn (AtStatement name at First x) r Inside)
     (and_then (at_stmt name at r) (λ br. and_then (either br) Ok)) Rest
 branch_turn name at (Err y) either go x First Inside Rest e f g h =
-    let same : node_fails (place name at y.node) y.cause ≡ x = cc in inl (inl (y, f y refl, sym same))
+    let same : node_fails (place name at y.node) y.cause y.operands ≡ x = cc in inl (inl (y, f y refl, sym same))
 branch_turn name at (Ok br) either go x First Inside Rest e f g h = by_mid (either br) refl e
   where
     by_mid : (q : Result Ranges WalkFault) → either br ≡ q → and_then q go ≡ Err x
@@ -293,7 +295,7 @@ module _ (f : Flowchart) (typed : IsWellTyped f) (counts : IsWithinCounts f) (nu
   body_refuses (branch t a b rest) at rs it small held w h e =
       let first = walked (scope_of f) call name (at + 1) a in
       let second = walked (scope_of f) call name (at + 1 + written a) b in
-      let none = node_fails (place name at (last_node t)) Wide in
+      let none = node_fails (place name at (last_node t)) Wide [] in
       let either = λ (br : Branches). either_way none first second (meet name at (last_node t)) br.holds br.fails in
       branch_turn name at (tested (scope_of f) t 0 rs) either
       (walked (scope_of f) call name (at + 1 + written a + written b) rest) x _ _ _ e

@@ -1,5 +1,5 @@
 -- Where the walk of an expression passes, it is safe and its value lies in its range; and the same of a test.
-use Rattle.std.proofs.Common.{◌≡◌, ℕ, ◌+◌, List, Bool, true, false, Option, Some, None, Result, Ok, Err, refl, subst}
+use Rattle.std.proofs.Common.{◌≡◌, ℕ, ◌+◌, List, [], ◌∷◌, Bool, true, false, Option, Some, None, Result, Ok, Err, refl, subst}
 use Rattle.std.specs.Bool.{OnTrue}
 use Rattle.std.specs.Option.{option_map, option_or}
 use Rattle.scaled_decimal.specs.Decimals.{Decimal, decimal, comparison}
@@ -77,7 +77,7 @@ module _ (scope : Scope) (rs : Ranges) where
   -- the variable that a term is has the term's range
   pub found_range : (t : Bool) (e : Term) (at : ℕ) (a : Interval) → ranged scope e at rs ≡ Ok a → OnTrue t (IsWhole a) → FoundWhole t e rs
   found_range t (leaf (named x)) at a e w = λ v f. (
-      let l = (leaf_shape scope (named x) rs a (passed_node at (leaf_range scope (named x) rs) a e)).0 in
+      let l = (leaf_shape scope (named x) rs a (passed_node at _ (leaf_range scope (named x) rs) a e)).0 in
       let found : Some v ≡ Some a = subst (λ o. option_or o (option_map single (constant_in scope x)) ≡ Some a) f l in
       let same : a ≡ v = cc in
       subst (λ a. OnTrue t (IsWhole a)) same w)
@@ -171,29 +171,29 @@ module _ (scope : Scope) (ok : IsSoundScope scope) (env : Env) (only : AreVariab
   mutual
     pub term_sound : (t : Term) (at : ℕ) (rs : Ranges) (r : Interval) → AreWithin rs env → IsTypedTerm scope t → KeepsScales t → ranged scope t at rs ≡ Ok r → TermHolds scope t env r
     term_sound (leaf l) at rs r w typed keeps e =
-        let v = leaf_sound scope rs env w l r (leaf_shape scope l rs r (passed_node at (leaf_range scope l rs) r e)).0 in
+        let v = leaf_sound scope rs env w l r (leaf_shape scope l rs r (passed_node at _ (leaf_range scope l rs) r e)).0 in
         record { safe = tt; gives = v.gives; is = v.is; inside = v.inside }
     term_sound (item x i) at rs r w typed keeps e =
-        let a = stepped (ranged scope i at rs) (λ a. at_node (at + nodes i) (item_range (table_in scope x) a)) r e in
-        item_sound scope ok env only rs w x i at a.0 r typed keeps a.1 (term_sound i at rs a.0 w typed.0 keeps a.1) (passed_node (at + nodes i) (item_range (table_in scope x) a.0) r a.2)
+        let a = stepped (ranged scope i at rs) (λ a. at_node (at + nodes i) (a ∷ []) (item_range (table_in scope x) a)) r e in
+        item_sound scope ok env only rs w x i at a.0 r typed keeps a.1 (term_sound i at rs a.0 w typed.0 keeps a.1) (passed_node (at + nodes i) _ (item_range (table_in scope x) a.0) r a.2)
     term_sound (one op t) at rs r w typed keeps e =
         let k = kind_of scope (one op t) in
-        let a = stepped (ranged scope t at rs) (λ a. at_node (at + nodes t) (one_range op k t a)) r e in
-        one_sound scope ok env only rs w op t at a.0 r typed keeps a.1 (term_sound t at rs a.0 w typed.0 keeps.1 a.1) (passed_node (at + nodes t) (one_range op k t a.0) r a.2)
+        let a = stepped (ranged scope t at rs) (λ a. at_node (at + nodes t) (a ∷ []) (one_range op k t a)) r e in
+        one_sound scope ok env only rs w op t at a.0 r typed keeps a.1 (term_sound t at rs a.0 w typed.0 keeps.1 a.1) (passed_node (at + nodes t) _ (one_range op k t a.0) r a.2)
     term_sound (two op s t) at rs r w typed keeps e =
         let k = kind_of scope (two op s t) in
         let node = at + nodes s + nodes t in
-        let a = stepped (ranged scope s at rs) (λ a. and_then (ranged scope t (at + nodes s) rs) (λ b. at_node node (two_range scope op k t a b))) r e in
-        let b = stepped (ranged scope t (at + nodes s) rs) (λ b. at_node node (two_range scope op k t a.0 b)) r a.2 in
+        let a = stepped (ranged scope s at rs) (λ a. and_then (ranged scope t (at + nodes s) rs) (λ b. at_node node (a ∷ b ∷ []) (two_range scope op k t a b))) r e in
+        let b = stepped (ranged scope t (at + nodes s) rs) (λ b. at_node node (a.0 ∷ b ∷ []) (two_range scope op k t a.0 b)) r a.2 in
         two_sound scope ok env only rs w op s t at a.0 b.0 r typed keeps a.1 b.1
         (term_sound s at rs a.0 w typed.0 keeps.1 a.1)
         (term_sound t (at + nodes s) rs b.0 w typed.1 keeps.2 b.1)
-        (passed_node node (two_range scope op k t a.0 b.0) r b.2)
+        (passed_node node _ (two_range scope op k t a.0 b.0) r b.2)
     term_sound (choice c s t) at rs r w typed keeps e =
         let node = at + nodes c + nodes s + nodes t in
         let first = ranged scope s (at + nodes c) in
         let second = ranged scope t (at + nodes c + nodes s) in
-        let br = stepped (tested scope c at rs) (λ br. either_way (nowhere node) first second (λ a b. at_node node (join_row a b)) br.holds br.fails) r e in
+        let br = stepped (tested scope c at rs) (λ br. either_way (nowhere node) first second (λ a b. at_node node (a ∷ b ∷ []) (join_row a b)) br.holds br.fails) r e in
         choice_sound scope c s t env br.0 r (test_sound c at rs br.0 w typed.0 keeps.0 br.1) (nowhere node) node first second
         (λ rs a v f. term_sound s (at + nodes c) rs a v typed.1 keeps.1 f)
         (λ rs b v f. term_sound t (at + nodes c + nodes s) rs b v typed.2 keeps.2 f)
@@ -234,15 +234,15 @@ module _ (scope : Scope) (ok : IsSoundScope scope) (env : Env) (only : AreVariab
     test_sound (two (operator op) s t) at rs br w typed keeps e =
         let node = at + nodes s + nodes t in
         let answer = λ (a b : Interval). compared op (are_whole scope s t) (sides s t a b) (compare_sides scope s at rs) (int_literal t) rs in
-        let a = stepped (ranged scope s at rs) (λ a. and_then (ranged scope t (at + nodes s) rs) (λ b. and_then (at_node node (comparison_range op a b)) (λ r. Ok (answer a b)))) br e in
-        let b = stepped (ranged scope t (at + nodes s) rs) (λ b. and_then (at_node node (comparison_range op a.0 b)) (λ r. Ok (answer a.0 b))) br a.2 in
-        let r = stepped (at_node node (comparison_range op a.0 b.0)) (λ r. Ok (answer a.0 b.0)) br b.2 in
+        let a = stepped (ranged scope s at rs) (λ a. and_then (ranged scope t (at + nodes s) rs) (λ b. and_then (at_node node (a ∷ b ∷ []) (comparison_range op a b)) (λ r. Ok (answer a b)))) br e in
+        let b = stepped (ranged scope t (at + nodes s) rs) (λ b. and_then (at_node node (a.0 ∷ b ∷ []) (comparison_range op a.0 b)) (λ r. Ok (answer a.0 b))) br a.2 in
+        let r = stepped (at_node node (a.0 ∷ b.0 ∷ []) (comparison_range op a.0 b.0)) (λ r. Ok (answer a.0 b.0)) br b.2 in
         let same : answer a.0 b.0 ≡ br = let f = r.2 in cc in
         subst (TestHolds scope (two (operator op) s t) env) same
         (compared_sound scope op s t rs env a.0 b.0 r.0 w
         (term_sound s at rs a.0 w typed.0 keeps.1 a.1)
         (term_sound t (at + nodes s) rs b.0 w typed.1 keeps.2 b.1)
-        (passed_node node (comparison_range op a.0 b.0) r.0 r.1)
+        (passed_node node _ (comparison_range op a.0 b.0) r.0 r.1)
         (compare_sides scope s at rs)
         (λ x f. sides_sound s at rs x w typed.0 keeps.1 f)
         (sides_whole scope rs s t at a.0 b.0 typed.0 typed.1 keeps.1 keeps.2 a.1 b.1))

@@ -1,5 +1,5 @@
 -- Tests and conditionals: each of their parts is safe, and the branch that the value takes can be reached.
-use Rattle.std.proofs.Common.{◌≡◌, ℕ, ℤ, pos, ◌*ℤ◌, Bool, true, false, ◌||◌, if◌then◌else◌, Option, Some, None, Result, Ok, refl, sym, ap, ap₂, ◌∙◌, subst, arith}
+use Rattle.std.proofs.Common.{◌≡◌, ℕ, ℤ, pos, ◌*ℤ◌, [], ◌∷◌, Bool, true, false, ◌||◌, if◌then◌else◌, Option, Some, None, Result, Ok, refl, sym, ap, ap₂, ◌∙◌, subst, arith}
 use Rattle.std.specs.Prelude.{is_some}
 use Rattle.std.specs.Ordering.{int_cmp}
 use Rattle.std.proofs.lemmas.Int.{ints}
@@ -263,19 +263,19 @@ module _ (scope : Scope) (c e f : Term) (env : Env) (br : Branches) (r : Interva
   takes_second a z k wider = record { safe = part_safe true z (λ _. k.safe) (λ n. absurd (cc)); gives = k.gives; is = rw (h.is, z) k.is; inside = wider k.gives k.inside }
 
   -- the part that a run takes is walked in ranges that hold its variables
-  pub choice_sound : (none : NodeFault) (at : ℕ) (go other : Ranges → Result Interval NodeFault) → ((s : Ranges) (a : Interval) → AreWithin s env → go s ≡ Ok a → TermHolds scope e env a) → ((s : Ranges) (b : Interval) → AreWithin s env → other s ≡ Ok b → TermHolds scope f env b) → either_way none go other (λ a b. at_node at (join_row a b)) br.holds br.fails ≡ Ok r → TermHolds scope (choice c e f) env r
+  pub choice_sound : (none : NodeFault) (at : ℕ) (go other : Ranges → Result Interval NodeFault) → ((s : Ranges) (a : Interval) → AreWithin s env → go s ≡ Ok a → TermHolds scope e env a) → ((s : Ranges) (b : Interval) → AreWithin s env → other s ≡ Ok b → TermHolds scope f env b) → either_way none go other (λ a b. at_node at (a ∷ b ∷ []) (join_row a b)) br.holds br.fails ≡ Ok r → TermHolds scope (choice c e f) env r
   choice_sound none at go other first second g = by_reach br.holds br.fails refl refl g (is_zero h.gives) refl
     where
-      by_reach : (o p : Option Ranges) → br.holds ≡ o → br.fails ≡ p → either_way none go other (λ a b. at_node at (join_row a b)) o p ≡ Ok r → (z : Bool) → is_zero h.gives ≡ z → TermHolds scope (choice c e f) env r
+      by_reach : (o p : Option Ranges) → br.holds ≡ o → br.fails ≡ p → either_way none go other (λ a b. at_node at (a ∷ b ∷ []) (join_row a b)) o p ≡ Ok r → (z : Bool) → is_zero h.gives ≡ z → TermHolds scope (choice c e f) env r
       by_reach None None i j k z y = absurd (cc)
       by_reach (Some s) None i j k true y = absurd (never_reached j (h.fails y))
       by_reach (Some s) None i j k false y = takes_first r y (first s r (reached_same s i (h.holds y)) k) (λ d l. l)
       by_reach None (Some t) i j k true y = takes_second r y (second t r (reached_same t j (h.fails y)) k) (λ d l. l)
       by_reach None (Some t) i j k false y = absurd (never_reached i (h.holds y))
       by_reach (Some s) (Some t) i j k z y =
-          let u = stepped (go s) (λ a. and_then (other t) (λ b. at_node at (join_row a b))) r k in
-          let v = stepped (other t) (λ b. at_node at (join_row u.0 b)) r u.2 in
-          by_truth u.0 v.0 (passed_node at (join_row u.0 v.0) r v.2) u.1 v.1 z y
+          let u = stepped (go s) (λ a. and_then (other t) (λ b. at_node at (a ∷ b ∷ []) (join_row a b))) r k in
+          let v = stepped (other t) (λ b. at_node at (u.0 ∷ b ∷ []) (join_row u.0 b)) r u.2 in
+          by_truth u.0 v.0 (passed_node at _ (join_row u.0 v.0) r v.2) u.1 v.1 z y
         where
           by_truth : (a b : Interval) → join_row a b ≡ Ok r → go s ≡ Ok a → other t ≡ Ok b → (z : Bool) → is_zero h.gives ≡ z → TermHolds scope (choice c e f) env r
           by_truth a b l p q true y = takes_second b y (second t b (reached_same t j (h.fails y)) q) (λ d n. (join_sound a b r l).right d n)

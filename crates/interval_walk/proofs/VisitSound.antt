@@ -1,5 +1,5 @@
 -- The walk comes to each statement that a run executes.
-use Rattle.std.proofs.Common.{◌≡◌, ℕ, zero, suc, ◌+◌, List, Bool, true, false, if◌then◌else◌, Option, Some, None, Result, Ok, ◌⊎◌, inl, inr, refl, sym, ap, ◌∙◌, subst}
+use Rattle.std.proofs.Common.{◌≡◌, ℕ, zero, suc, ◌+◌, List, [], Bool, true, false, if◌then◌else◌, Option, Some, None, Result, Ok, ◌⊎◌, inl, inr, refl, sym, ap, ◌∙◌, subst}
 use Rattle.std.specs.Prelude.{All, IsSome, IsSomeAnd, IsOkAnd, not}
 use Rattle.scaled_decimal.specs.Decimals.{Decimal}
 use Rattle.pap_tree.specs.Term.{Term}
@@ -132,14 +132,14 @@ module _ (scope : Scope) (ok : IsSoundScope scope) (methods : List Routine) wher
       branches : Branches
       tested_is : tested scope t 0 rs ≡ Ok branches
       mid : Ranges
-      meets : either_way (node_fails (place name at (last_node t)) Wide) (walked scope call name (at + 1) a) (walked scope call name (at + 1 + written a) b) (meet name at (last_node t)) branches.holds branches.fails ≡ Ok mid
+      meets : either_way (node_fails (place name at (last_node t)) Wide []) (walked scope call name (at + 1) a) (walked scope call name (at + 1 + written a) b) (meet name at (last_node t)) branches.holds branches.fails ≡ Ok mid
       alone : walked scope call name at (branch t a b done) rs ≡ Ok mid
       later : walked scope call name (at + 1 + written a + written b) rest mid ≡ Ok z
 
     is_passed : (t : Term) (a b rest : Body) (at : ℕ) (rs z : Ranges) → walked scope call name at (branch t a b rest) rs ≡ Ok z → IsPassed t a b rest at rs z
     is_passed t a b rest at rs z e =
         let node = last_node t in
-        let none = node_fails (place name at node) Wide in
+        let none = node_fails (place name at node) Wide [] in
         let first = walked scope call name (at + 1) a in
         let second = walked scope call name (at + 1 + written a) b in
         let go = walked scope call name (at + 1 + written a + written b) rest in
@@ -158,7 +158,7 @@ module _ (scope : Scope) (ok : IsSoundScope scope) (methods : List Routine) wher
     first_visited : (t : Term) (a b rest : Body) (at : ℕ) (rs z : Ranges) (env : Env) → AreWithin rs env → AreVariables scope env → IsTypedBody scope methods (branch t a b rest) → AreSmallTerms (branch t a b rest) → IsPassed t a b rest at rs z → (d : Decimal) → value scope t env ≡ Some d → is_zero d ≡ false → ((s u : Ranges) → AreWithin s env → walked scope call name (at + 1) a s ≡ Ok u → IsVisited scope (Comes (at + 1) a s) x) → IsVisited scope (Comes at (branch t a b rest) rs) x
     first_visited t a b rest at rs z env w only typed small p d is y ih =
         let node = last_node t in
-        let none = node_fails (place name at node) Wide in
+        let none = node_fails (place name at node) Wide [] in
         let first = walked scope call name (at + 1) a in
         let second = walked scope call name (at + 1 + written a) b in
         let h = test_sound scope ok env only t 0 rs p.branches w typed.0 small.0.scales p.tested_is in
@@ -175,7 +175,7 @@ module _ (scope : Scope) (ok : IsSoundScope scope) (methods : List Routine) wher
     second_visited : (t : Term) (a b rest : Body) (at : ℕ) (rs z : Ranges) (env : Env) → AreWithin rs env → AreVariables scope env → IsTypedBody scope methods (branch t a b rest) → AreSmallTerms (branch t a b rest) → IsPassed t a b rest at rs z → (d : Decimal) → value scope t env ≡ Some d → is_zero d ≡ true → ((s u : Ranges) → AreWithin s env → walked scope call name (at + 1 + written a) b s ≡ Ok u → IsVisited scope (Comes (at + 1 + written a) b s) x) → IsVisited scope (Comes at (branch t a b rest) rs) x
     second_visited t a b rest at rs z env w only typed small p d is y ih =
         let node = last_node t in
-        let none = node_fails (place name at node) Wide in
+        let none = node_fails (place name at node) Wide [] in
         let first = walked scope call name (at + 1) a in
         let second = walked scope call name (at + 1 + written a) b in
         let h = test_sound scope ok env only t 0 rs p.branches w typed.0 small.0.scales p.tested_is in

@@ -70,11 +70,11 @@ factor_inside a v few h =
 -- a literal that goes to a `double` has at most three places
 literal_places : (scope : Scope) (e : Term) (at : ℕ) (rs : Ranges) (a : Interval) → is_factor_literal e ≡ true → ranged scope e at rs ≡ Ok a → a.s_hi ≤ factor_places
 literal_places scope (leaf (whole i)) at rs a f e =
-    let g = (leaf_shape scope (whole i) rs a (passed_node at (leaf_range scope (whole i) rs) a e)).0 in
+    let g = (leaf_shape scope (whole i) rs a (passed_node at _ (leaf_range scope (whole i) rs) a e)).0 in
     let same : single (decimal i 0) ≡ a = cc in
     subst (λ a. a.s_hi ≤ factor_places) same (omega arith)
 literal_places scope (leaf (point d)) at rs a f e =
-    let g = (leaf_shape scope (point d) rs a (passed_node at (leaf_range scope (point d) rs) a e)).0 in
+    let g = (leaf_shape scope (point d) rs a (passed_node at _ (leaf_range scope (point d) rs) a e)).0 in
     let same : single d ≡ a = cc in
     let few : scale_of d ≤ factor_places = (let t = (both_true (nat_le (scale_of d) factor_places) (nat_le (unsigned_abs (numerator_of (at_factor_scale d))) limit) f).0 in grind (arith, nat_tests)) in
     subst (λ a. a.s_hi ≤ factor_places) same few
@@ -278,7 +278,7 @@ module _ (scope : Scope) (ok : IsSoundScope scope) (methods : List Routine) wher
         }
     body_sound (branch t a b rest) at rs z env w only typed small e =
         let node = last_node t in
-        let none = node_fails (place name at node) Wide in
+        let none = node_fails (place name at node) Wide [] in
         let first = walked scope call name (at + 1) a in
         let second = walked scope call name (at + 1 + written a) b in
         let go = walked scope call name (at + 1 + written a + written b) rest in

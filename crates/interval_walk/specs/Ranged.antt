@@ -1,6 +1,6 @@
 -- The walk of an expression and that of a test, over the ranges of the variables. Nodes are walked in the order of their
 -- numbers: the operands from the left, then the operation.
-use Rattle.std.specs.Prelude.{ℕ, ◌+◌, Bool, ◌&&◌, Option, None, Result, Ok, Err}
+use Rattle.std.specs.Prelude.{ℕ, ◌+◌, [], ◌∷◌, Bool, ◌&&◌, Option, None, Result, Ok, Err}
 use Rattle.pap_tree.specs.declared.expression.Unary.TheVariants.{Not}
 use Rattle.pap_tree.specs.declared.expression.Binary.TheVariants.{And, Or}
 use Rattle.pap_tree.specs.declared.expression.Call.TheVariants.{CompareTo}
@@ -23,23 +23,25 @@ module _ (scope : Scope) where
   abbrev mutual
     -- the range of an expression whose nodes are numbered from `at`, or its first node that may fail
     pub ranged : Term → ℕ → Ranges → Result Interval NodeFault
-    ranged (leaf l) at env = at_node at (leaf_range scope l env)
+    ranged (leaf l) at env = at_node at [] (leaf_range scope l env)
     ranged (item x e) at env =
-        and_then (ranged e at env) (λ i. at_node (at + nodes e) (item_range (table_in scope x) i))
+        and_then (ranged e at env) (λ i.
+        at_node (at + nodes e) (i ∷ []) (item_range (table_in scope x) i))
     ranged (one op e) at env =
         and_then (ranged e at env) (λ a.
-        at_node (at + nodes e) (one_range op (kind_of scope (one op e)) e a))
+        at_node (at + nodes e) (a ∷ []) (one_range op (kind_of scope (one op e)) e a))
     ranged (two op e f) at env =
         and_then (ranged e at env) (λ a.
         and_then (ranged f (at + nodes e) env) (λ b.
-        at_node (at + nodes e + nodes f) (two_range scope op (kind_of scope (two op e f)) f a b)))
+        at_node (at + nodes e + nodes f) (a ∷ b ∷ [])
+        (two_range scope op (kind_of scope (two op e f)) f a b)))
     ranged (choice c e f) at env =
         and_then (tested c at env) (λ br.
         either_way
         (nowhere (at + nodes c + nodes e + nodes f))
         (ranged e (at + nodes c))
         (ranged f (at + nodes c + nodes e))
-        (λ a b. at_node (at + nodes c + nodes e + nodes f) (join_row a b))
+        (λ a b. at_node (at + nodes c + nodes e + nodes f) (a ∷ b ∷ []) (join_row a b))
         br.holds
         br.fails)
 
@@ -63,7 +65,7 @@ module _ (scope : Scope) where
     tested (two (operator op) e f) at env =
         and_then (ranged e at env) (λ a.
         and_then (ranged f (at + nodes e) env) (λ b.
-        and_then (at_node (at + nodes e + nodes f) (comparison_range op a b)) (λ r.
+        and_then (at_node (at + nodes e + nodes f) (a ∷ b ∷ []) (comparison_range op a b)) (λ r.
         Ok (compared op (are_whole e f) (sides e f a b) (compare_sides e at env) (int_literal f)
         env))))
     tested _ at env = Err (nowhere at)

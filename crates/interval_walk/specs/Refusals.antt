@@ -1,6 +1,6 @@
 -- What the walk over ranges is refused for: at a place to which it comes, with the ranges that it has there, the row of an
 -- operation refuses its operands, or two ranges aren't joined, or an output is beyond its bound.
-use Rattle.std.specs.Prelude.{◌≡◌, ℕ, zero, suc, ◌+◌, ◌⊎◌, List, ◌∷◌, IsSomeAnd, Result, Err, IsOkAnd}
+use Rattle.std.specs.Prelude.{◌≡◌, ℕ, zero, suc, ◌+◌, ◌⊎◌, List, [], ◌∷◌, IsSomeAnd, Result, Err, IsOkAnd}
 use Rattle.pap_tree.specs.declared.expression.Unary.TheVariants.{Not}
 use Rattle.pap_tree.specs.declared.expression.Binary.TheVariants.{And, Or}
 use Rattle.pap_tree.specs.Term.{Term, leaf, item, one, two, choice, unary, operator}
@@ -44,19 +44,20 @@ InBranches First Second first second Meet br =
 
 module _ (scope : Scope) where
   abbrev mutual
-    -- A row refuses in the walk of an expression whose nodes are numbered from `at`: the answer at its node is this refusal.
+    -- A row refuses in the walk of an expression whose nodes are numbered from `at`: the answer at its node, of its operands,
+    -- is this refusal.
     pub RowRefuses : Term → ℕ → Ranges → NodeFault → Type 0
     RowRefuses (leaf l) at rs x = ⊥
     RowRefuses (item y e) at rs x =
         InTurn (RowRefuses e at rs x) (ranged scope e at rs) (λ i.
-        at_node (at + nodes e) (item_row (table_in scope y) i) ≡ Err x)
+        at_node (at + nodes e) (i ∷ []) (item_row (table_in scope y) i) ≡ Err x)
     RowRefuses (one op e) at rs x =
         InTurn (RowRefuses e at rs x) (ranged scope e at rs) (λ a.
-        at_node (at + nodes e) (one_range op (kind_of scope (one op e)) e a) ≡ Err x)
+        at_node (at + nodes e) (a ∷ []) (one_range op (kind_of scope (one op e)) e a) ≡ Err x)
     RowRefuses (two op e f) at rs x =
         InTurn (RowRefuses e at rs x) (ranged scope e at rs) (λ a.
         InTurn (RowRefuses f (at + nodes e) rs x) (ranged scope f (at + nodes e) rs) (λ b.
-        at_node (at + nodes e + nodes f)
+        at_node (at + nodes e + nodes f) (a ∷ b ∷ [])
         (two_range scope op (kind_of scope (two op e f)) f a b) ≡ Err x))
     RowRefuses (choice c e f) at rs x =
         InTurn (TestRefuses c at rs x) (tested scope c at rs) (
@@ -65,7 +66,8 @@ module _ (scope : Scope) where
         (λ s. RowRefuses f (at + nodes c + nodes e) s x)
         (ranged scope e (at + nodes c))
         (ranged scope f (at + nodes c + nodes e))
-        (λ a b. at_node (at + nodes c + nodes e + nodes f) (join_row a b) ≡ Err x))
+        (λ a b.
+        at_node (at + nodes c + nodes e + nodes f) (a ∷ b ∷ []) (join_row a b) ≡ Err x))
 
     -- A row refuses in the walk of a test whose nodes are numbered from `at`.
     pub TestRefuses : Term → ℕ → Ranges → NodeFault → Type 0
@@ -79,7 +81,7 @@ module _ (scope : Scope) where
     TestRefuses (two (operator op) e f) at rs x =
         InTurn (RowRefuses e at rs x) (ranged scope e at rs) (λ a.
         InTurn (RowRefuses f (at + nodes e) rs x) (ranged scope f (at + nodes e) rs) (λ b.
-        at_node (at + nodes e + nodes f) (comparison_range op a b) ≡ Err x))
+        at_node (at + nodes e + nodes f) (a ∷ b ∷ []) (comparison_range op a b) ≡ Err x))
     TestRefuses _ at rs x = ⊥
 
 -- ---- statements
@@ -87,13 +89,13 @@ module _ (scope : Scope) where
 -- the row of joins refuses some two of two lists of ranges, at this node
 abbrev pub JoinRefuses : ℕ → Ranges → Ranges → NodeFault → Type 0
 JoinRefuses node (v ∷ vs) (w ∷ ws) x =
-    (at_node node (join_row v.range w.range) ≡ Err x) ⊎ JoinRefuses node vs ws x
+    (at_node node [] (join_row v.range w.range) ≡ Err x) ⊎ JoinRefuses node vs ws x
 JoinRefuses node _ _ x = ⊥
 
 -- an expression's refusal, at its statement
 abbrev pub AtStatement : List ℕ → ℕ → (NodeFault → Type 0) → WalkFault → Type 0
 AtStatement name at Refuses x =
-    (y : NodeFault) × Refuses y × (x ≡ node_fails (place name at y.node) y.cause)
+    (y : NodeFault) × Refuses y × (x ≡ node_fails (place name at y.node) y.cause y.operands)
 
 module _ (scope : Scope) (call : RangeCalls) (CallRefuses : List ℕ → Ranges → WalkFault → Type 0)
     (name : List ℕ) (x : WalkFault) where

@@ -55,10 +55,10 @@ module _ (scope : Scope) (call : RangeCalls) (name : List ℕ) where
       and_then (at_stmt name at (tested scope t 0 env)) (λ br.
       and_then
       (either_way
-      (node_fails (place name at (last_node t)) Wide)
+      (node_fails (place name at (last_node t)) Wide [])
       (walked (at + 1) a)
       (walked (at + 1 + written a) b)
-      (λ x y. at_stmt name at (at_node (last_node t) (joined x y)))
+      (λ x y. at_stmt name at (at_node (last_node t) [] (joined x y)))
       br.holds
       br.fails)
       (walked (at + 1 + written a + written b) rest))
@@ -68,10 +68,10 @@ module _ (scope : Scope) (call : RangeCalls) (name : List ℕ) where
 abbrev pub with_body :
     List ℕ → Option Body → (Body → Result Ranges WalkFault) → Result Ranges WalkFault
 with_body m (Some b) go = go b
-with_body m None go = Err (node_fails (place m 0 0) Wide)
+with_body m None go = Err (node_fails (place m 0 0) Wide [])
 
 -- the methods, where a chain of them has at most so many
 unfoldable pub range_calls_of : Scope → List Routine → ℕ → RangeCalls
-range_calls_of scope ms zero m env = Err (node_fails (place m 0 0) Wide)
+range_calls_of scope ms zero m env = Err (node_fails (place m 0 0) Wide [])
 range_calls_of scope ms (suc n) m env =
     with_body m (body_named ms m) (λ b. walked scope (range_calls_of scope ms n) m 0 b env)

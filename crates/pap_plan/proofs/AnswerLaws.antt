@@ -1,5 +1,5 @@
 -- Every two texts have one answer.
-use Rattle.std.proofs.Common.{◌≡◌, ℕ, ◌⊎◌, inl, inr, List, [], Option, Some, None, Result, Ok, Err, refl, sym, ap, subst, ◌∙◌}
+use Rattle.std.proofs.Common.{◌≡◌, ℕ, ◌⊎◌, inl, inr, List, Option, Some, None, Result, Ok, Err, refl, sym, ap, subst, ◌∙◌}
 use Rattle.std.specs.List.{All}
 use Rattle.pap_tree.specs.Flowchart.{Flowchart}
 use Rattle.limits_file.specs.declared.limits.Limits.{Limits}
@@ -184,22 +184,17 @@ one_limits_fault limits e d h k =
     sym a.1 ∙ ap limits_fault (err_same (fault_of e) (fault_of d) (file_once limits (Err (fault_of e)) (Err (fault_of d)) a.0 b.0)) ∙ b.1
 
 -- a refusal of the walk, by the walk's own words
-abbrev walk_of : RangeFault → WalkFault
-walk_of (walks.At place cause) = node_fails place cause
-walk_of (walks.Output name) = output_fails name
-walk_of (walks.Memory e) = output_fails []
-
 abbrev range_of : WalkFault → RangeFault
-range_of (node_fails place cause) = walks.At place cause
+range_of (node_fails place cause operands) = walks.At place cause
 range_of (output_fails name) = walks.Output name
 
-walk_fault : (f : Flowchart) (l : Limits) (r : RangeFault) → IsWalkFault f l r → (analysed f l ≡ Err (walk_of r)) × (range_of (walk_of r) ≡ r)
-walk_fault f l (walks.At place cause) h = (h, refl)
-walk_fault f l (walks.Output name) h = (h, refl)
+walk_fault : (f : Flowchart) (l : Limits) (r : RangeFault) → IsWalkFault f l r → (w : WalkFault) × (analysed f l ≡ Err w) × (range_of w ≡ r)
+walk_fault f l (walks.At place cause) h = (node_fails place cause h.0, h.1, refl)
+walk_fault f l (walks.Output name) h = (output_fails name, h, refl)
 walk_fault f l (walks.Memory e) h = absurd h
 
 is_walk_fault : (f : Flowchart) (l : Limits) (w : WalkFault) → analysed f l ≡ Err w → IsWalkFault f l (range_of w)
-is_walk_fault f l (node_fails place cause) h = h
+is_walk_fault f l (node_fails place cause operands) h = (operands, h)
 is_walk_fault f l (output_fails name) h = h
 
 ranges_same : (x y : Ranges) → ok_walk x ≡ ok_walk y → x ≡ y
@@ -213,12 +208,12 @@ ok_or_walk x w e = cc
 
 one_by_walk : (f : Flowchart) (l : Limits) (a b : Out) → ByWalk f l a → ByWalk f l b → a ≡ b
 one_by_walk f l a b (inl (x, h, e)) (inl (y, k, d)) = e ∙ ap (λ r. Ok (meaning_of f l r)) (ranges_same x y (sym h ∙ k)) ∙ sym d
-one_by_walk f l a b (inl (x, h, e)) (inr (s, k, d)) = absurd (ok_or_walk x (walk_of s) (sym h ∙ (walk_fault f l s k).0))
-one_by_walk f l a b (inr (r, h, e)) (inl (y, k, d)) = absurd (ok_or_walk y (walk_of r) (sym k ∙ (walk_fault f l r h).0))
+one_by_walk f l a b (inl (x, h, e)) (inr (s, k, d)) = let v = walk_fault f l s k in absurd (ok_or_walk x v.0 (sym h ∙ v.1))
+one_by_walk f l a b (inr (r, h, e)) (inl (y, k, d)) = let u = walk_fault f l r h in absurd (ok_or_walk y u.0 (sym k ∙ u.1))
 one_by_walk f l a b (inr (r, h, e)) (inr (s, k, d)) =
     let u = walk_fault f l r h in
     let v = walk_fault f l s k in
-    e ∙ ap (λ x. Err (refusals.Range x)) (sym u.1 ∙ ap range_of (walks_same (walk_of r) (walk_of s) (sym u.0 ∙ v.0)) ∙ v.1) ∙ sym d
+    e ∙ ap (λ x. Err (refusals.Range x)) (sym u.2 ∙ ap range_of (walks_same u.0 v.0 (sym u.1 ∙ v.1)) ∙ v.2) ∙ sym d
 
 one_by_bindings : (f : Flowchart) (l : Limits) (a b : Out) → ByBindings f l a → ByBindings f l b → a ≡ b
 one_by_bindings f l a b (inl (h, x)) (inl (k, y)) = one_by_walk f l a b x y

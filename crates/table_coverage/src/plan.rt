@@ -36,6 +36,6 @@ fn reachable_within(
 {
     match survey(alloc, &bound.typed, &bound.order, &bound.limits) {
         Ok(survey) => Ok(survey.reached),
-        Err(fault) => Err(PlanRefusal::from(fault)),
+        Err(refused) => Err(PlanRefusal::from(refused.fault)),
     }
 }

@@ -1,5 +1,5 @@
 -- What private contracts say of the walk of expressions.
-use Rattle.std.specs.Prelude.{◌≡◌, ℕ, ◌+◌, ◌<◌, ◌^◌, List, Option, Some, None, Result, Ok, Err, ⊤}
+use Rattle.std.specs.Prelude.{◌≡◌, ℕ, ◌+◌, ◌<◌, ◌^◌, List, [], ◌∷◌, Option, Some, None, Result, Ok, Err, ⊤}
 use Rattle.pap_tree.specs.Term.{Term, One, Two}
 use Rattle.pap_tree.specs.Numbering.{nodes}
 use Rattle.pap_tree.specs.Scales.{KeepsScales}
@@ -19,7 +19,7 @@ use Rattle.interval_analysis.specs.declared.expressions.Operands.{Operands}
 use Rattle.interval_analysis.specs.declared.expressions.Part.{Part}
 use Rattle.interval_analysis.specs.declared.expressions.Ranged.{Ranged}
 use Rattle.interval_analysis.specs.declared.expressions.Stop.{Stop}
-use Rattle.interval_analysis.specs.declared.expressions.Stop.TheVariants.{At, Memory}
+use Rattle.interval_analysis.specs.declared.expressions.Stop.TheVariants.{At, AtOne, AtTwo, Memory}
 use Rattle.interval_analysis.specs.declared.expressions.Walk.{Walk}
 use Rattle.pap_types.specs.private.ScopeViews.{scope_in}
 use Rattle.interval_analysis.specs.private.PlanViews.{variable_in, ranges_in}
@@ -52,7 +52,9 @@ pub record CanWalkParts (w : Walk) (t u : Term) (at : ℕ) : Type 0 where
 
 -- an answer, or the node where it fails; memory is free
 abbrev pub StopsAs : {A : Type 0} → Result A NodeFault → Stop → Type 0
-StopsAs r (At n c) = r ≡ Err (record { node = n; cause = c })
+StopsAs r (At n c) = r ≡ Err (record { node = n; cause = c; operands = [] })
+StopsAs r (AtOne n c a) = r ≡ Err (record { node = n; cause = c; operands = a ∷ [] })
+StopsAs r (AtTwo n c a b) = r ≡ Err (record { node = n; cause = c; operands = a ∷ b ∷ [] })
 StopsAs r Memory = ⊤
 
 -- the definition, from ranges by number
@@ -82,29 +84,35 @@ abbrev pub OperandsAnswer : Walk → Term → Term → ℕ → List Interval →
 OperandsAnswer w t u at rs (Ok o) = AreRanged w t u at rs o
 OperandsAnswer w t u at rs (Err stop) = StopsAs (second_in w t u at rs) stop
 
--- the same of a node by what its operation answers, and by the number of the variable that it names
-pub record IsNode (number : Option ℕ) (answer : RowAnswer) (k : NodeKind) (at : ℕ) (r : Ranged) : Type 0 where
-  pub range : at_node at answer ≡ Ok r.range
+-- the same of a node by what its operation answers there, and by the number of the variable that it names
+pub record IsNode (number : Option ℕ) (answer : Result Interval NodeFault) (k : NodeKind) (at : ℕ) (r : Ranged) : Type 0 where
+  pub range : answer ≡ Ok r.range
   pub kind : r.kind ≡ k
   pub next : r.next ≡ at + 1
   pub variable : r.variable ≡ number
 
-abbrev pub NodeAnswer : Option ℕ → RowAnswer → NodeKind → ℕ → Result Ranged Stop → Type 0
+abbrev pub NodeAnswer : Option ℕ → Result Interval NodeFault → NodeKind → ℕ → Result Ranged Stop → Type 0
 NodeAnswer number answer k at (Ok r) = IsNode number answer k at r
-NodeAnswer number answer k at (Err stop) = StopsAs (at_node at answer) stop
+NodeAnswer number answer k at (Err stop) = StopsAs answer stop
 
 -- that of a node that is no name
-abbrev pub OwnAnswer : RowAnswer → NodeKind → ℕ → Result Ranged Stop → Type 0
+abbrev pub OwnAnswer : Result Interval NodeFault → NodeKind → ℕ → Result Ranged Stop → Type 0
 OwnAnswer answer k at r = NodeAnswer None answer k at r
 
 -- that of an operation on one operand, and on two, the right one being f
 abbrev pub OneAnswer : One → Term → Ranged → Result Ranged Stop → Type 0
-OneAnswer op e a r = OwnAnswer (one_range op (kind_of_one op a.kind) e a.range) (kind_of_one op a.kind) a.next r
+OneAnswer op e a r =
+    OwnAnswer
+    (at_node a.next (a.range ∷ []) (one_range op (kind_of_one op a.kind) e a.range))
+    (kind_of_one op a.kind)
+    a.next
+    r
 
 abbrev pub TwoAnswer : Scope → Two → Term → Operands → Result Ranged Stop → Type 0
 TwoAnswer scope op f o r =
     OwnAnswer
-    (two_range scope op (kind_of_two op o.first.kind o.second.kind) f o.first.range o.second.range)
+    (at_node o.second.next (o.first.range ∷ o.second.range ∷ [])
+    (two_range scope op (kind_of_two op o.first.kind o.second.kind) f o.first.range o.second.range))
     (kind_of_two op o.first.kind o.second.kind)
     o.second.next
     r
@@ -139,7 +147,7 @@ parts_ranged w t u at br =
     (nowhere (at + nodes t + nodes u))
     (ranged (scope_in w.plan.now) t at)
     (ranged (scope_in w.plan.now) u (at + nodes t))
-    (λ a b. at_node (at + nodes t + nodes u) (join_row a b))
+    (λ a b. at_node (at + nodes t + nodes u) (a ∷ b ∷ []) (join_row a b))
     br.holds
     br.fails
 

@@ -9,6 +9,8 @@ use Rattle.interval_analysis.specs.private.StatementViews.{joined_lists}
 abbrev pub MeetsAnswer : ℕ → List Interval → List Interval → List Interval → Result (Unit {0}) Stop → Type 0
 MeetsAnswer root rs ss new (Ok u) = joined_lists rs ss ≡ Ok new
 MeetsAnswer root rs ss new (Err (stops.At node cause)) = (node ≡ root) × (joined_lists rs ss ≡ Err cause)
+MeetsAnswer root rs ss new (Err (stops.AtOne node cause a)) = ⊥
+MeetsAnswer root rs ss new (Err (stops.AtTwo node cause a b)) = ⊥
 MeetsAnswer root rs ss new (Err stops.Memory) = ⊤
 
 -- an interval contains another at the same places

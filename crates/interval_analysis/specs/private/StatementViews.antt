@@ -1,5 +1,5 @@
 -- What private contracts say of the walk of statements.
-use Rattle.std.specs.Prelude.{◌≡◌, ℕ, ◌+◌, ◌≤◌, ◌<◌, ◌^◌, List, [], ◌∷◌, Some, Result, Ok, Err, ⊤, alloc_error}
+use Rattle.std.specs.Prelude.{◌≡◌, ℕ, ◌+◌, ◌≤◌, ◌<◌, ◌^◌, List, [], ◌∷◌, Some, Result, Ok, Err, ⊤}
 use Rattle.pap_tree.specs.declared.declaration.Kind.{Kind}
 use Rattle.pap_tree.specs.declared.declaration.Kind.TheVariants.{Factor}
 use Rattle.pap_tree.specs.declared.plan.PlanText.{PlanText}
@@ -29,8 +29,8 @@ use Rattle.interval_analysis.specs.declared.expressions.Stop.TheVariants as stop
 use Rattle.interval_analysis.specs.declared.expressions.Walk.{Walk}
 use Rattle.interval_analysis.specs.declared.statements.Fork.{Fork}
 use Rattle.interval_analysis.specs.declared.statements.Spot.{Spot}
-use Rattle.interval_analysis.specs.declared.fault.RangeFault.{RangeFault}
-use Rattle.interval_analysis.specs.declared.fault.RangeFault.TheVariants as faults
+use Rattle.interval_analysis.specs.declared.stop.WalkStop.{WalkStop}
+use Rattle.interval_analysis.specs.declared.stop.WalkStop.TheVariants as walks
 use Rattle.pap_types.specs.private.ScopeViews.{scope_in}
 use Rattle.interval_analysis.specs.private.PlanViews.{ranges_in}
 
@@ -75,16 +75,16 @@ abbrev pub met_in : Walk → Spot → Fork → List Interval → List Interval �
 met_in w spot f rs ss =
     and_then (walked_in w (first_spot spot) (body_of f.yes.now) rs) (λ x.
     and_then (walked_in w (second_spot spot f) (body_of f.no.now) ss) (λ y.
-    at_stmt spot.method spot.at (at_node f.root (joined x y))))
+    at_stmt spot.method spot.at (at_node f.root [] (joined x y))))
 
 -- the lists of an IF, where its test has these branches
 abbrev pub forked_in : Walk → Spot → Fork → Branches → Result Ranges WalkFault
 forked_in w spot f br =
     either_way
-    (node_fails (place spot.method spot.at f.root) Wide)
+    (node_fails (place spot.method spot.at f.root) Wide [])
     (walked (scope_in w.plan.now) (calls_in w spot.chain) spot.method (spot.at + 1) (body_of f.yes.now))
     (walked (scope_in w.plan.now) (calls_in w spot.chain) spot.method (spot.at + 1 + written (body_of f.yes.now)) (body_of f.no.now))
-    (λ x y. at_stmt spot.method spot.at (at_node f.root (joined x y)))
+    (λ x y. at_stmt spot.method spot.at (at_node f.root [] (joined x y)))
     br.holds
     br.fails
 
@@ -128,13 +128,15 @@ pub record IsMethodBody (p : PlanText) (b : Body) : Type 0 where
 
 -- ---- what is answered; memory is free
 
-abbrev pub FaultOf : Result Ranges WalkFault → RangeFault → Type 0
-FaultOf r (faults.At p cause) = r ≡ Err (node_fails p cause)
-FaultOf r (faults.Output x) = ⊥
-FaultOf r (faults.Memory e) = ⊤
+abbrev pub FaultOf : Result Ranges WalkFault → WalkStop → Type 0
+FaultOf r (walks.At p cause) = r ≡ Err (node_fails p cause [])
+FaultOf r (walks.AtOne p cause a) = r ≡ Err (node_fails p cause (a ∷ []))
+FaultOf r (walks.AtTwo p cause a b) = r ≡ Err (node_fails p cause (a ∷ b ∷ []))
+FaultOf r (walks.Output x) = ⊥
+FaultOf r walks.Memory = ⊤
 
 -- the ranges behind what is walked
-abbrev pub EnvAnswer : Walk → Result Ranges WalkFault → List Interval → Result (Unit {0}) RangeFault → Type 0
+abbrev pub EnvAnswer : Walk → Result Ranges WalkFault → List Interval → Result (Unit {0}) WalkStop → Type 0
 EnvAnswer w r new (Ok u) = r ≡ Ok (ranges_in w.plan.now new)
 EnvAnswer w r new (Err f) = FaultOf r f
 
@@ -145,7 +147,7 @@ pub record Passage : Type 0 where
   pub next : ℕ
 
 -- these are the ranges and the number behind the statements
-abbrev pub Passes : Passage → List Interval → Result ℕ RangeFault → Type 0
+abbrev pub Passes : Passage → List Interval → Result ℕ WalkStop → Type 0
 Passes p new (Ok next) = (p.ranges ≡ Ok (ranges_in p.plan new)) × (next ≡ p.next)
 Passes p new (Err f) = FaultOf p.ranges f
 
@@ -186,9 +188,11 @@ abbrev pub through_both : Walk → Spot → Fork → List Interval → List Inte
 through_both w spot f rs ss = record { plan = w.plan.now; ranges = met_in w spot f rs ss; next = end_of spot f }
 
 -- the fault of an expression at its statement
-abbrev pub fault_of : Stop → Spot → RangeFault
-fault_of (stops.At node cause) spot = faults.At (place spot.method spot.at node) cause
-fault_of stops.Memory spot = faults.Memory alloc_error
+abbrev pub fault_of : Stop → Spot → WalkStop
+fault_of (stops.At node cause) spot = walks.At (place spot.method spot.at node) cause
+fault_of (stops.AtOne node cause a) spot = walks.AtOne (place spot.method spot.at node) cause a
+fault_of (stops.AtTwo node cause a b) spot = walks.AtTwo (place spot.method spot.at node) cause a b
+fault_of stops.Memory spot = walks.Memory
 
 -- ---- where two branches meet
 

@@ -1,5 +1,5 @@
 -- What private contracts say of tests.
-use Rattle.std.specs.Prelude.{◌≡◌, ℕ, ℤ, pos, ◌+◌, ◌&&◌, Bool, true, false, List, is_some, Result, Ok, Err, IsFalse}
+use Rattle.std.specs.Prelude.{[], ◌∷◌, ◌≡◌, ℕ, ℤ, pos, ◌+◌, ◌&&◌, Bool, true, false, List, is_some, Result, Ok, Err, IsFalse}
 use Rattle.std.specs.Option.{option_map}
 use Rattle.scaled_decimal.specs.WholeNumbers.{whole_decimal}
 use Rattle.pap_tree.specs.declared.expression.Expr.{Expr}
@@ -66,7 +66,7 @@ comparison_in w c at env =
     let f = c.right in
     and_then (ranged scope e at env) (λ a.
     and_then (ranged scope f (at + nodes e) env) (λ b.
-    and_then (at_node (at + nodes e + nodes f) (comparison_range c.op a b)) (λ r.
+    and_then (at_node (at + nodes e + nodes f) (a ∷ b ∷ []) (comparison_range c.op a b)) (λ r.
     Ok (meant.compared c.op (are_whole scope e f) (meant.sides e f a b) (compare_sides scope e at env) (int_literal f) env))))
 
 abbrev pub ComparisonAnswer : Walk → Comparison → ℕ → List Interval → Result Tested Stop → Type 0
@@ -111,15 +111,15 @@ ComparesAs r end o (Err stop) = (rs : List Interval) → StopsAs (r rs) stop
 -- a comparison of two sides
 abbrev pub sides_compared : Binary → Operands → WaysFrom
 sides_compared op o rs =
-    and_then (at_node o.second.next (comparison_range op o.first.range o.second.range)) (λ _.
+    and_then (at_node o.second.next (o.first.range ∷ o.second.range ∷ []) (comparison_range op o.first.range o.second.range)) (λ _.
     Ok (branches_by (sides_of o (is_whole o.first.kind && is_whole o.second.kind)) (meant.signs_where op (pos 0)) rs))
 
 -- the nodes of a compareTo, of a number, and of a comparison of both
 abbrev pub order_node : Binary → ℤ → Interval → Interval → ℕ → Result Interval NodeFault
 order_node op k a b at =
-    and_then (at_node at (comparison_row a b)) (λ c.
-    and_then (at_node (at + 1) (read_range Int (single (whole_decimal k)))) (λ l.
-    at_node (at + 2) (comparison_range op c l)))
+    and_then (at_node at (a ∷ b ∷ []) (comparison_row a b)) (λ c.
+    and_then (at_node (at + 1) [] (read_range Int (single (whole_decimal k)))) (λ l.
+    at_node (at + 2) (c ∷ l ∷ []) (comparison_range op c l)))
 
 pub record IsPassed (r : Result Interval NodeFault) (end n : ℕ) : Type 0 where
   pub range : Interval

@@ -6,10 +6,10 @@ use Rattle.interval_walk.proofs.Laws.{analysis_sound}
 use Rattle.interval_analysis.specs.Answers.{named_range}
 use Rattle.interval_analysis.proofs.analysis.analyse.Goals as goal
 
-pub returns-clause-sound : goal.returns-clause-sound
-returns-clause-sound c = λ inputs admitted.
+pub returns-in-Ok-clause-sound : goal.returns-in-Ok-clause-sound
+returns-in-Ok-clause-sound c = λ inputs admitted.
     let f = flowchart_of c.args.t.now in
-    let ranges = map named_range c.in_ok-outputs.outputs.items in (
-      analysis_sound f c.args.limits.now ranges c.plan-well_typed.ensures.well_typed c.plan-well_typed.ensures.counted c.requires.limits c.in_ok-outputs.ensures.outputs inputs admitted,
-      subst (λ n. cost_of f inputs ≤ n) (sym c.in_ok-bound.ensures) (cost_at_most f inputs),
+    let ranges = map named_range c.in-Ok.verdict.outputs.items in (
+      analysis_sound f c.args.limits.now ranges c.plan-well_typed.ensures.well_typed c.plan-well_typed.ensures.counted c.requires.limits c.in-Ok.ensures.ranges inputs admitted,
+      subst (λ n. cost_of f inputs ≤ n) (sym c.in-Ok.ensures.bound) (cost_at_most f inputs),
     )

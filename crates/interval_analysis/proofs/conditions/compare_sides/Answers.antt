@@ -1,4 +1,4 @@
-use Rattle.std.proofs.Common.{◌∙◌, ◌&&◌, Ok, pos, sym, ap, ap₂, subst}
+use Rattle.std.proofs.Common.{[], ◌∷◌, ◌∙◌, ◌&&◌, Ok, pos, sym, ap, ap₂, subst}
 use Rattle.pap_types.specs.Kinds.{is_whole}
 use Rattle.interval_walk.specs.Branches.{signs_where}
 use Rattle.interval_walk.specs.Failures.{and_then, at_node}
@@ -15,8 +15,8 @@ returns c =
     let b = o.second.range in
     let r = c.in_ok-compared.compared.range in
     let whole = c.are_whole-whole.result in
-    let node = ap (at_node o.second.next) (sym c.comparison_range-compared.ensures) ∙ c.in_ok-compared.ensures.range in
-    let row = sym c.comparison_range-compared.ensures ∙ passed_node o.second.next c.comparison_range-compared.result r c.in_ok-compared.ensures.range in
+    let node = ap (at_node o.second.next (a ∷ b ∷ [])) (sym c.comparison_range-compared.ensures) ∙ c.in_ok-compared.ensures.range in
+    let row = sym c.comparison_range-compared.ensures ∙ passed_node o.second.next _ c.comparison_range-compared.result r c.in_ok-compared.ensures.range in
     record {
       branches = λ rs.
           ap (λ q. and_then q (λ _. Ok (branches_by (sides_of o (is_whole o.first.kind && is_whole o.second.kind)) (signs_where op (pos 0)) rs))) node

@@ -10,5 +10,5 @@ returns-in-Ok-clause-reached c =
 
 pub returns-in-Err-clause-refused : goal.returns-in-Err-clause-refused
 returns-in-Err-clause-refused c =
-    range_refused c.args.plan.now c.args.limits.now c.args.bound.now c.in-Err.fault c.from.result c.requires c.in-Err.ensures.fault
+    range_refused c.args.plan.now c.args.limits.now c.args.bound.now c.in-Err.refused.fault c.from.result c.requires c.in-Err.ensures.fault
     c.from.ensures

@@ -137,7 +137,7 @@ walk_method-returns-then-chain-eq0-clause-passes t c =
     let w = c.args.self.now in
     let p = w.plan.now in
     let rs = c.args.variables.now.ranges.items in
-    subst (FaultOf (executed w c.args.name.now c.args.chain rs)) (sym c.fault_at.ensures) (no_chain (scope_in p) (methods_in p) c.args.name.now (ranges_in p rs) c.args.chain c.if-chain-eq0.true)
+    subst (FaultOf (executed w c.args.name.now c.args.chain rs)) (sym c.nowhere_at.ensures) (no_chain (scope_in p) (methods_in p) c.args.name.now (ranges_in p rs) c.args.chain c.if-chain-eq0.true)
 
 pub walk_method-returns-in_err-walk_body-in-Some-clause-passes : goal.walk_method-returns-in_err-walk_body-in-Some-clause-passes
 walk_method-returns-in_err-walk_body-in-Some-clause-passes t c =
@@ -168,7 +168,7 @@ walk_method-returns-in-None-clause-passes t c =
     let w = c.args.self.now in
     let p = w.plan.now in
     let rs = c.args.variables.now.ranges.items in
-    subst (FaultOf (executed w c.args.name.now c.args.chain rs)) (sym c.fault_at-in-None.ensures) (no_method (scope_in p) (methods_in p) c.args.name.now (ranges_in p rs) c.args.chain (sym (c.in-None.ensures.body ∙ ap (λ p. body_named (methods_in p) c.args.name.now) c.typed.ensures)))
+    subst (FaultOf (executed w c.args.name.now c.args.chain rs)) (sym c.nowhere_at-in-None.ensures) (no_method (scope_in p) (methods_in p) c.args.name.now (ranges_in p rs) c.args.chain (sym (c.in-None.ensures.body ∙ ap (λ p. body_named (methods_in p) c.args.name.now) c.typed.ensures)))
 
 pub walk_statement-walk_if-requires : goal.walk_statement-walk_if-requires
 walk_statement-walk_if-requires t c =
@@ -181,6 +181,23 @@ walk_statement-returns-in_ok-assign-in-Eval-clause-visits t c =
     let w = c.args.self.now in
     subst (λ s. GathersIn (scope_in w.plan.now) (ComesIn w c.args.spot (stmt_then s done) (ranges_in w.plan.now c.args.variables.now.ranges.items)) c.args.visits.now.known c.assign.new.visits.known) (sym c.in-Eval.is)
     c.in_ok-assign-in-Eval.ensures.visits
+
+pub walk_statement-returns-in_ok-assign-in-Eval-clause-passes : goal.walk_statement-returns-in_ok-assign-in-Eval-clause-passes
+walk_statement-returns-in_ok-assign-in-Eval-clause-passes t c =
+    let w = c.args.self.now in
+    let spot = c.args.spot in
+    let rs = c.args.variables.now.ranges.items in
+    subst (λ s. Passes (through_body w spot (stmt_then s done) rs) c.assign.new.variables.ranges.items (Ok (spot.at + 1))) (sym c.in-Eval.is)
+    (c.in_ok-assign-in-Eval.ensures.passes, omega arith)
+
+pub walk_statement-returns-in_err-assign-in-Eval-clause-passes : goal.walk_statement-returns-in_err-assign-in-Eval-clause-passes
+walk_statement-returns-in_err-assign-in-Eval-clause-passes t c =
+    let w = c.args.self.now in
+    let spot = c.args.spot in
+    let rs = c.args.variables.now.ranges.items in
+    let f = c.in_err-assign-in-Eval.field-0.0 in
+    passes_not (through_body w spot (stmt_then c.args.stmt.now done) rs) c.assign.new.variables.ranges.items c.from_residual.result f c.from_residual.ensures.1
+    (subst (λ s. FaultOf (walked_in w spot (stmt_then s done) rs) f) (sym c.in-Eval.is) c.in_err-assign-in-Eval.ensures.passes)
 
 pub walk_statement-returns-in_ok-walk_method-in-Execute-clause-visits : goal.walk_statement-returns-in_ok-walk_method-in-Execute-clause-visits
 walk_statement-returns-in_ok-walk_method-in-Execute-clause-visits t c =
