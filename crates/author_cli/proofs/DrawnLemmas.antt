@@ -13,8 +13,7 @@ use Rattle.plan_notes.specs.declared.notes.Notes.{Notes}
 use Rattle.plan_notes.specs.declared.tag.Mark.{Mark}
 use Rattle.plan_notes.specs.Notes.{HasNotes}
 use Rattle.plain_words.specs.Lines.{IsOneLine}
-use Rattle.plain_words.specs.Places.{named_text}
-use Rattle.plain_words.specs.States.{SaysState}
+use Rattle.plain_words.specs.Places.{files_of, named_text}
 use Rattle.flowchart_methods.specs.Marks.{Marked}
 use Rattle.flowchart_page.specs.Findings.{IsFound}
 use Rattle.flowchart_page.specs.Judged.{finding_of, words_of, HasLine, HasPlan}
@@ -28,10 +27,10 @@ use Rattle.source_lines.specs.Lines.{FileLines, lines_of_file}
 use Rattle.run_trace.specs.RunPages.{blocked_part}
 use Rattle.run_trace.specs.ShownRuns.{ShowsRun, run_pieces}
 use Rattle.author_cli.specs.declared.drawn.Judged.{Judged}
-use Rattle.author_cli.specs.Given.{filled_given}
+use Rattle.author_cli.specs.Given.{filled_given, SaysGiven}
 use Rattle.author_cli.specs.Drawn.{shown_run, shown_part, blocked_line, IsDrawnRefused, IsDrawn}
 use Rattle.author_cli.specs.private.DrawnViews.{IsOfFiles, DrawsRun, DrawsBlocked}
-use Rattle.author_cli.proofs.TracedLemmas.{filled_of}
+use Rattle.author_cli.proofs.TracedLemmas.{filled_of, says_alone}
 
 -- an accepted plan with the verdict on it
 pub of_files : (j : Judged) → j.verdict.now ≡ Accepted j.accepted.now
@@ -69,7 +68,7 @@ drawn_run values given j inputs found text reason h same is are r =
 -- the page that says why there is none
 pub drawn_blocked : (values given : List NamedValue) (j : Judged) (state : Blocked) (found : Filled) (text : List ℕ)
     (reason : Option (List ℕ)) → IsOfFiles j → given ≡ values → found ≡ State state
-    → found ≡ filled_given (accepted j.accepted.now) given → DrawsBlocked j state text reason
+    → found ≡ filled_given (accepted j.accepted.now) given → DrawsBlocked j given state text reason
     → IsDrawn values (named_text j.plan) (named_text j.limits) text reason
 drawn_blocked values given j state found text reason h same is are r =
     let plan = j.plan.bytes.now in
@@ -82,7 +81,7 @@ drawn_blocked values given j state found text reason h same is are r =
       words = r.words;
       said = r.said;
       line = r.line;
-      says = r.says;
+      says = says_alone values given (files_of j.plan j.limits) plan limits j.accepted.now state h.accepted same r.words r.says;
       page = r.page;
     }))
 
@@ -107,13 +106,13 @@ draws_run j f given inputs notes tags lines part marks shown text words reason n
 }
 
 -- why a run has no inputs, in words and as a line
-pub draws_blocked : (j : Judged) (state : Blocked) (words line first second part text : List ℕ)
+pub draws_blocked : (j : Judged) (values : List NamedValue) (state : Blocked) (words line first second part text : List ℕ)
     (silent reason : Option (List ℕ)) → IsOneLine words
-    → SaysState (files_with (named_text j.plan) (Some (named_text j.limits))) state words
+    → SaysGiven (accepted j.accepted.now) values (files_of j.plan j.limits) state words
     → line ≡ blocked_line state → first ≡ words → second ≡ line → part ≡ blocked_part first second
     → IsRunPage (Some (shown_part part)) j.plan.bytes.now (Some j.limits.bytes.now) silent text → silent ≡ None
-    → reason ≡ Some words → DrawsBlocked j state text reason
-draws_blocked j state words line first second part text silent reason one says is same same' shown page none said =
+    → reason ≡ Some words → DrawsBlocked j values state text reason
+draws_blocked j values state words line first second part text silent reason one says is same same' shown page none said =
     let whole : part ≡ blocked_part words (blocked_line state) =
     shown ∙ ap (λ w. blocked_part w second) same ∙ ap (λ l. blocked_part words l) (same' ∙ is) in
     record {

@@ -1,6 +1,6 @@
 -- The inputs of a run that stands alone are those of the plan whose range file fills none from earlier runs.
-use Rattle.std.proofs.Common.{◌≡◌, suc, List, [], ◌∷◌, map, refl, sym, subst, ◌∙◌, arith}
-use Rattle.std.specs.Prelude.{Option, Some, All}
+use Rattle.std.proofs.Common.{◌≡◌, suc, List, [], ◌∷◌, map, refl, sym, ap, subst, ◌∙◌, arith}
+use Rattle.std.specs.Prelude.{Option, Some, None, All, option_map, slice_get}
 use Rattle.std.specs.List.{AllByRecursion}
 use Rattle.scaled_decimal.specs.Decimals.{Decimal}
 use Rattle.scaled_decimal.specs.Limits.{IsKept}
@@ -12,6 +12,7 @@ use Rattle.limits_file.specs.declared.slots.Slot.{Slot}
 use Rattle.payroll_records.specs.declared.values.NamedValue.{NamedValue}
 use Rattle.carry_bindings.specs.Conditions.{KeepsFactorLimit}
 use Rattle.carry_bindings.specs.Filling.{filled_by}
+use Rattle.carry_bindings.specs.declared.filling.Blocked.{Blocked}
 use Rattle.carry_bindings.specs.declared.filling.Filled.{Filled}
 use Rattle.carry_bindings.specs.declared.filling.Filled.TheVariants as filling
 use Rattle.interval_walk.specs.Admission.{SuitsLimit, HasLimit, HaveLimits, AllAdmitted}
@@ -21,6 +22,10 @@ use Rattle.pap_plan.proofs.Laws.{accepted_limits}
 use Rattle.pay_run.specs.Accepted.{Accepted}
 use Rattle.pay_run.specs.RunClauses.{Fills, AdmitsFilled}
 use Rattle.pay_run.proofs.Laws.{filled_slots, filled_admitted}
+use Rattle.plain_words.specs.declared.state.RunReason.{RunReason}
+use Rattle.plain_words.specs.States.{blocked_by}
+use Rattle.diagnostics.specs.RunReasons.{named_reason, reasons_by, run_reasons}
+use Rattle.diagnostics.proofs.Laws.{first_named, slots_reasons}
 use Rattle.author_cli.specs.Given.{unbound, unbound_plan, filled_given}
 use Rattle.author_cli.specs.private.GivenViews.{unbound_slot}
 
@@ -108,3 +113,39 @@ module _ (p : Accepted) (accepted : IsAccepted p.plan p.limits p.meaning) (slots
   pub gives_none : (values : List NamedValue) (f : Filled) → f ≡ filled_by (map unbound_slot slots) values [] → AdmitsFilled p f
       → Fills p (filled_given p values) f
   gives_none values f is admitted = record { are = given_is values f is; admitted = admitted }
+
+-- ---- why a run that stands alone has no inputs
+
+-- the reasons of the inputs without what they carry over are those of the plan without it
+pub alone_reasons : (p : Accepted) (slots : List Slot) (values : List NamedValue) (reasons : List RunReason)
+    → AreSlots p.meaning.limits p.meaning.flowchart.inputs slots → reasons ≡ reasons_by (map unbound_slot slots) values
+    → reasons ≡ run_reasons (unbound_plan p) values
+alone_reasons p slots values reasons are is =
+    slots_reasons (unbound_plan p) (map unbound_slot slots) values reasons
+    (are_unbound p.meaning.limits p.meaning.flowchart.inputs slots are) is
+
+-- the first of the reasons that are given is that of the run
+pub first_given : (p : Accepted) (values : List NamedValue) (reasons given : List RunReason) (reason : RunReason)
+    → reasons ≡ run_reasons (unbound_plan p) values → given ≡ reasons → Some reason ≡ slice_get given 0
+    → slice_get (run_reasons (unbound_plan p) values) 0 ≡ Some reason
+first_given p values reasons given reason are same is = ap (λ rs. slice_get rs 0) (sym (same ∙ are)) ∙ sym is
+
+-- a run that has no inputs has a reason
+pub has_reason : (p : Accepted) (values : List NamedValue) (state : Blocked) (reasons given : List RunReason)
+    → filled_given p values ≡ filling.State state → reasons ≡ run_reasons (unbound_plan p) values → given ≡ reasons
+    → ◌≡◌ {A = Option RunReason} None (slice_get given 0) → ⊥
+has_reason p values state reasons given blocked are same empty =
+    let named = first_named (unbound_plan p) values ∙ ap named_reason blocked in
+    let none = ap (λ o. option_map blocked_by o) empty ∙ ap (λ rs. option_map blocked_by (slice_get rs 0)) (same ∙ are) in
+    let e : ◌≡◌ {A = Option Blocked} None (Some state) = none ∙ named in
+    cc e
+
+some_state : {x y : Blocked} → ◌≡◌ {A = Option Blocked} (Some x) (Some y) → x ≡ y
+some_state e = cc e
+
+-- the first reason tells more of the state of a run that has no inputs
+pub answers_state : (p : Accepted) (values : List NamedValue) (state : Blocked) (reason : RunReason)
+    → filled_given p values ≡ filling.State state → slice_get (run_reasons (unbound_plan p) values) 0 ≡ Some reason
+    → blocked_by reason ≡ state
+answers_state p values state reason none first =
+    some_state (sym (ap (λ o. option_map blocked_by o) first) ∙ first_named (unbound_plan p) values ∙ ap named_reason none)

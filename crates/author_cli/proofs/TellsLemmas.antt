@@ -1,6 +1,6 @@
 -- The words on what is read of two files are those on the files: a place beyond what was read is its end.
 use Rattle.std.proofs.Common.{◌≡◌, ◌⊎◌, inl, inr, ℕ, ◌<◌, ◌≤◌, length, take, List, [], ◌∷◌, ◌++◌, refl, sym, ap, subst}
-use Rattle.std.specs.Prelude.{zero, suc, Some, None, codes}
+use Rattle.std.specs.Prelude.{Option, zero, suc, Some, None, codes}
 use Rattle.pap_reader.specs.declared.fault.Which.TheVariants as which
 use Rattle.pap_reader.specs.declared.fault.ReadFault.TheVariants as reads
 use Rattle.pap_reader.specs.declared.fault.ReadFault.{ReadFault}
@@ -32,21 +32,24 @@ front_place (suc at) (suc m) [] = (zero, refl)
 front_place (suc at) (suc m) (x ∷ xs) =
     let same = front_place at m xs in (suc same.0, ap (λ l. x ∷ l) same.1)
 
+in_one_file : (a b : Option ℕ) → in_ranges a ≡ in_plan b → ⊥
+in_one_file a b e = cc
+
 -- what stands at a byte of the range file may stand at any
-fault_moved : (fault : ReadFault) (a b : ℕ) → IsPlaceOfFault fault (in_ranges (Some a))
-    → IsPlaceOfFault fault (in_ranges (Some b))
-fault_moved (reads.Text at) a b h = absurd cc
-fault_moved (reads.Element at) a b h = absurd cc
-fault_moved (reads.Attribute at) a b h = absurd cc
-fault_moved (reads.Many which.Bytes) a b h = absurd cc
-fault_moved (reads.Many which.Depth) a b h = absurd cc
-fault_moved (reads.Many which.Inputs) a b h = h
-fault_moved (reads.Many which.Outputs) a b h = h
-fault_moved (reads.Many which.Internals) a b h = h
-fault_moved (reads.Many which.Constants) a b h = h
-fault_moved (reads.Many which.Methods) a b h = h
-fault_moved (reads.Many which.Statements) a b h = h
-fault_moved reads.Memory a b h = h
+fault_moved : (plan : List ℕ) (fault : ReadFault) (a b : ℕ) → IsPlaceOfFault plan fault (in_ranges (Some a))
+    → IsPlaceOfFault plan fault (in_ranges (Some b))
+fault_moved plan (reads.Text at) a b h = absurd (in_one_file (Some a) (Some h.0) h.2)
+fault_moved plan (reads.Element at) a b h = absurd cc
+fault_moved plan (reads.Attribute at) a b h = absurd cc
+fault_moved plan (reads.Many which.Bytes) a b h = absurd cc
+fault_moved plan (reads.Many which.Depth) a b h = absurd cc
+fault_moved plan (reads.Many which.Inputs) a b h = h
+fault_moved plan (reads.Many which.Outputs) a b h = h
+fault_moved plan (reads.Many which.Internals) a b h = h
+fault_moved plan (reads.Many which.Constants) a b h = h
+fault_moved plan (reads.Many which.Methods) a b h = h
+fault_moved plan (reads.Many which.Statements) a b h = h
+fault_moved plan reads.Memory a b h = h
 
 limits_moved : (fault : LimitsFault) (a b : ℕ) → IsPlaceOfLimits fault (in_ranges (Some a))
     → IsPlaceOfLimits fault (in_ranges (Some b))
@@ -58,7 +61,7 @@ limits_moved (ranges.Bound label) a b h = tt
 
 moved : (plan : List ℕ) (r : PlanRefusal) (a b : ℕ) → IsPlaceOf plan r (in_ranges (Some a))
     → IsPlaceOf plan r (in_ranges (Some b))
-moved plan (refusals.Read fault) a b h = fault_moved fault a b h
+moved plan (refusals.Read fault) a b h = fault_moved plan fault a b h
 moved plan (refusals.Limits fault) a b h = limits_moved fault a b h
 moved plan (refusals.LimitName name) a b h = record { input = h.input; none = λ no. tt }
 moved plan (refusals.LimitKind name) a b h = tt

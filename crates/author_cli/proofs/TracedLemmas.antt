@@ -22,15 +22,16 @@ use Rattle.plan_answers.specs.Answers.{Answer as Written, IsRefusal}
 use Rattle.plan_answers.proofs.Laws.{refused_is}
 use Rattle.plain_words.specs.declared.place.TextFile.{TextFile}
 use Rattle.plain_words.specs.Lines.{IsOneLine}
-use Rattle.plain_words.specs.Places.{NamedText, named_text, files_of}
+use Rattle.plain_words.specs.Places.{NamedText, PlanFiles, named_text, files_of}
+use Rattle.flowchart_page.specs.Verdicts.{files_with}
 use Rattle.plain_words.specs.Refusals.{BeginsAtRefusal}
 use Rattle.plan_notes.specs.declared.notes.Notes.{Notes}
 use Rattle.plan_notes.specs.declared.tag.Mark.{Mark}
 use Rattle.plan_notes.specs.Notes.{HasNotes}
 use Rattle.source_lines.specs.Lines.{FileLines, lines_of_file}
 use Rattle.run_trace.specs.RunTexts.{TellsRun}
-use Rattle.author_cli.specs.Given.{unbound_plan, filled_given}
-use Rattle.author_cli.specs.Traced.{filled_alone, IsRefusedAs, IsTraced}
+use Rattle.author_cli.specs.Given.{unbound_plan, filled_given, SaysGiven}
+use Rattle.author_cli.specs.Traced.{accepted_texts, filled_alone, IsRefusedAs, IsTraced}
 use Rattle.author_cli.specs.private.TracedViews.{IsRunOf, SaysBlocked}
 
 -- ---- a run without earlier ones waits for none
@@ -86,10 +87,19 @@ told_run values given plan limits p inputs found text reason h same is are r = i
   silent = r.silent;
 })
 
+-- the words on a plan as it was accepted are those on its two texts
+pub says_alone : (values given : List NamedValue) (files : PlanFiles) (plan limits : List ℕ) (p : Seen) (state : Blocked)
+    → IsAcceptedAs plan limits p → given ≡ values → (words : List ℕ) → SaysGiven (accepted p) given files state words
+    → SaysGiven (accepted_texts plan limits (meaning p)) values files state words
+says_alone values given files plan limits p state h same words says =
+    subst (λ v. SaysGiven (accepted_texts plan limits (meaning p)) v files state words) same
+    (subst (λ l. SaysGiven (accepted_texts plan l (meaning p)) given files state words) h.limits_bytes
+    (subst (λ b. SaysGiven (accepted_texts b p.limits (meaning p)) given files state words) h.plan_bytes says))
+
 pub blocked_run : (values given : List NamedValue) (plan limits : NamedText) (p : Seen) (state : Blocked) (found : Filled)
     (text : List ℕ) (reason : Option (List ℕ)) → IsAcceptedAs plan.bytes limits.bytes p → given ≡ values
     → found ≡ State state → found ≡ filled_given (accepted p) given
-    → SaysBlocked plan limits state text reason → IsTraced values plan limits text reason
+    → SaysBlocked (accepted p) given (files_with plan (Some limits)) state text reason → IsTraced values plan limits text reason
 blocked_run values given plan limits p state found text reason h same is are r = inr (inl (record {
   meaning = meaning p;
   accepted = h.accepted;
@@ -99,7 +109,7 @@ blocked_run values given plan limits p state found text reason h same is are r =
   words = r.words;
   said = r.said;
   line = r.line;
-  says = r.says;
+  says = says_alone values given (files_with plan (Some limits)) plan.bytes limits.bytes p state h same r.words r.says;
 }))
 
 pub refused_run : (plan limits : TextFile) (r : PlanRefusal) (written : Written) (text : List ℕ) (reason : Option (List ℕ))

@@ -10,14 +10,14 @@ use Rattle.plan_notes.specs.Notes.{HasNotes}
 use Rattle.plain_words.specs.Lines.{IsOneLine}
 use Rattle.plain_words.specs.Places.{NamedText}
 use Rattle.plain_words.specs.Refusals.{TellsPlan}
-use Rattle.plain_words.specs.States.{SaysState}
 use Rattle.flowchart_page.specs.Pages.{IsPage, IsRunPage}
 use Rattle.flowchart_page.specs.Runs.{RunParts}
 use Rattle.flowchart_page.specs.Verdicts.{files_with}
 use Rattle.source_lines.specs.Lines.{lines_of_file}
 use Rattle.run_trace.specs.ShownRuns.{RunPieces, ShowsRun}
 use Rattle.run_trace.specs.RunPages.{blocked_part}
-use Rattle.author_cli.specs.Traced.{filled_alone, state_detail}
+use Rattle.author_cli.specs.Given.{SaysGiven}
+use Rattle.author_cli.specs.Traced.{accepted_texts, filled_alone, state_detail}
 
 -- what a page shows of a run: the part of it that tells of the run, and in the drawings the marks of its statements
 abbrev pub shown_run : RunPieces → RunParts
@@ -53,7 +53,7 @@ pub record IsDrawnBlocked (values : List NamedValue) (plan limits : NamedText) (
   pub words : List ℕ
   pub said : reason ≡ Some words
   pub line : IsOneLine words
-  pub says : SaysState (files_with plan (Some limits)) state words
+  pub says : SaysGiven (accepted_texts plan.bytes limits.bytes meaning) values (files_with plan (Some limits)) state words
   pub page : IsRunPage (Some (shown_part (blocked_part words (blocked_line state)))) plan.bytes (Some limits.bytes) None text
 
 -- the page of a refused plan, with the words that say why it is refused

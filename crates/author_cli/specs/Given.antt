@@ -1,10 +1,15 @@
 -- The inputs of a run that stands alone: those that a range file fills from earlier runs are given like the others.
-use Rattle.std.specs.Prelude.{List, []}
+use Rattle.std.specs.Prelude.{◌≡◌, ℕ, List, [], Some, slice_get}
 use Rattle.limits_file.specs.declared.limits.Limits.{Limits}
 use Rattle.payroll_records.specs.declared.values.NamedValue.{NamedValue}
+use Rattle.carry_bindings.specs.declared.filling.Blocked.{Blocked}
 use Rattle.carry_bindings.specs.declared.filling.Filled.{Filled}
 use Rattle.pay_run.specs.Accepted.{Accepted}
 use Rattle.pay_run.specs.Runs.{filled}
+use Rattle.plain_words.specs.declared.state.RunReason.{RunReason}
+use Rattle.plain_words.specs.Places.{PlanFiles}
+use Rattle.plain_words.specs.States.{blocked_by, SaysState}
+use Rattle.diagnostics.specs.RunReasons.{run_reasons}
 
 -- a range file that fills no input from earlier runs, with the same ranges
 abbrev pub unbound : Limits → Limits
@@ -18,3 +23,10 @@ unbound_plan p = record p { meaning = record p.meaning { limits = unbound p.mean
 -- default
 abbrev pub filled_given : Accepted → List NamedValue → Filled
 filled_given p values = filled (unbound_plan p) values []
+
+-- the words say why a run of these files' plan on these values has no inputs: the first reason, of which the state is the answer
+pub record SaysGiven (p : Accepted) (values : List NamedValue) (files : PlanFiles) (state : Blocked) (words : List ℕ) : Type 0 where
+  pub reason : RunReason
+  pub first : slice_get (run_reasons (unbound_plan p) values) 0 ≡ Some reason
+  pub answer : blocked_by reason ≡ state
+  pub says : SaysState files reason words

@@ -8,6 +8,7 @@ use Rattle.carry_bindings.specs.declared.filling.Filled.{Filled}
 use Rattle.carry_bindings.specs.declared.filling.Filled.TheVariants.{Inputs, State}
 use Rattle.pap_plan.specs.declared.refusal.PlanRefusal.{PlanRefusal}
 use Rattle.pap_plan.specs.Acceptance.{Meaning, IsAccepted, IsRefused}
+use Rattle.pay_run.specs.Accepted.{Accepted}
 use Rattle.plan_answers.specs.Refusals.{HasDetail}
 use Rattle.plan_answers.specs.Lines.{refusal_line}
 use Rattle.plan_notes.specs.declared.notes.Notes.{Notes}
@@ -15,15 +16,18 @@ use Rattle.plan_notes.specs.Notes.{HasNotes}
 use Rattle.plain_words.specs.Lines.{IsOneLine}
 use Rattle.plain_words.specs.Places.{NamedText}
 use Rattle.plain_words.specs.Refusals.{TellsPlan}
-use Rattle.plain_words.specs.States.{SaysState}
 use Rattle.flowchart_page.specs.Verdicts.{files_with}
 use Rattle.source_lines.specs.Lines.{lines_of_file}
 use Rattle.run_trace.specs.RunTexts.{TellsRun}
-use Rattle.author_cli.specs.Given.{filled_given}
+use Rattle.author_cli.specs.Given.{filled_given, SaysGiven}
+
+-- the plan of two texts that are accepted
+abbrev pub accepted_texts : List ℕ → List ℕ → Meaning → Accepted
+accepted_texts plan limits m = record { plan = plan; limits = limits; meaning = m }
 
 -- the inputs of an accepted plan's run on these values, or why it has none
 abbrev pub filled_alone : List NamedValue → List ℕ → List ℕ → Meaning → Filled
-filled_alone values plan limits m = filled_given (record { plan = plan; limits = limits; meaning = m }) values
+filled_alone values plan limits m = filled_given (accepted_texts plan limits m) values
 
 -- the plan is accepted, and the text tells of its run on these values, with the lines of the plan's file
 pub record IsToldRun (values : List NamedValue) (plan limits text : List ℕ) (reason : Option (List ℕ)) : Type 0 where
@@ -53,7 +57,7 @@ pub record IsBlockedRun (values : List NamedValue) (plan limits : NamedText) (te
   pub words : List ℕ
   pub said : reason ≡ Some words
   pub line : IsOneLine words
-  pub says : SaysState (files_with plan (Some limits)) state words
+  pub says : SaysGiven (accepted_texts plan.bytes limits.bytes meaning) values (files_with plan (Some limits)) state words
 
 -- a plan is refused so: the line of that, as `check` writes it, and the words that say why
 pub record IsRefusedAs (refusal : PlanRefusal) (plan limits : NamedText) (text : List ℕ) (reason : Option (List ℕ))

@@ -7,18 +7,21 @@ ghost use Rattle.flowchart_page.specs.declared.verdict.Verdict.TheVariants.{Refu
 ghost use Rattle.flowchart_page.specs.Findings.{IsFound};
 ghost use Rattle.flowchart_page.specs.Judged.{finding_of, words_of as verdict_words, HasLine};
 ghost use Rattle.flowchart_page.specs.Verdicts.{IsJudged};
+ghost use Rattle.carry_bindings.specs.declared.filling.Filled.TheVariants.{State};
+ghost use Rattle.pay_run.specs.Accepted.{accepted};
+ghost use Rattle.author_cli.specs.Given.{filled_given};
 ghost use Rattle.author_cli.specs.Drawn.{IsDrawn, IsDrawnRefused, blocked_line};
 ghost use Rattle.author_cli.specs.Ends.{words_of};
 ghost use Rattle.author_cli.specs.private.DrawnViews.{IsOfFiles, DrawsRun, DrawsBlocked};
 
 use crate::answer::Answer;
-use crate::given::fill_given;
+use crate::given::{fill_given, given_words};
 use crate::traced::{record_of, state_detail};
 use carry_bindings::{Blocked, Filled};
 use flowchart_page::{Reason, RunShown, Verdict, draw_judged, judge};
 use pap_plan::Plan;
 use payroll_records::Values;
-use plain_words::{TextFile, state_words};
+use plain_words::TextFile;
 use plan_notes::read_notes;
 use run_trace::{blocked_part, run_on_page};
 use scaled_decimal::Dec;
@@ -94,7 +97,7 @@ fn draw_accepted(alloc: Global, judged: Judged<'_>, values: Values) -> Result<An
     let record = record_of(values);
     match fill_given(alloc, judged.accepted, &record)? {
         Filled::Inputs(inputs) => draw_run(alloc, judged, &record.values, inputs.as_slice()),
-        Filled::State(state) => draw_blocked(alloc, judged, &state),
+        Filled::State(state) => draw_blocked(alloc, judged, &record.values, &state),
     }
 }
 
@@ -126,14 +129,25 @@ fn draw_run(
 }
 
 /// The page of a plan whose run has no inputs.
-fn draw_blocked(alloc: Global, judged: Judged<'_>, state: &Blocked) -> Result<Answer, AllocError>
+fn draw_blocked(
+    alloc: Global,
+    judged: Judged<'_>,
+    values: &Values,
+    state: &Blocked,
+) -> Result<Answer, AllocError>
     requires files { IsOfFiles judged }
     requires alone { (day : Date) → state.now ≢ Blocked.Waits day }
-    ensures { IfOk result (λ answer. DrawsBlocked judged.entry state.now answer.text.items
-        (words_of answer.reason)) }
+    requires blocked { filled_given (accepted judged.accepted.now) values.now ≡ State state.now }
+    ensures { IfOk result (λ answer. DrawsBlocked judged.entry values.now state.now
+        answer.text.items (words_of answer.reason)) }
 {
-    let Judged { plan, limits, .. } = judged;
-    let words = state_words(alloc, plan, limits, state)?;
+    let Judged {
+        plan,
+        limits,
+        accepted,
+        ..
+    } = judged;
+    let words = given_words(alloc, plan, limits, accepted, values, state)?;
     let line = blocked_line(alloc, state)?;
     let part = blocked_part(alloc, words.as_str(), line.as_bytes())?;
     let run = RunShown {

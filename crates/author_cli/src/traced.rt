@@ -4,17 +4,20 @@ ghost use Rattle.payroll_records.specs.declared.day.Day.{Day as Date};
 ghost use Rattle.pap_plan.specs.Acceptance.{IsRefusedOrMemory};
 ghost use Rattle.pap_plan.specs.AcceptanceClauses.{IsAcceptedAs};
 ghost use Rattle.pap_plan.specs.Plans.{Admits, flowchart};
-ghost use Rattle.plain_words.specs.Places.{named_text};
+ghost use Rattle.carry_bindings.specs.declared.filling.Filled.TheVariants.{State};
+ghost use Rattle.pay_run.specs.Accepted.{accepted};
+ghost use Rattle.plain_words.specs.Places.{files_of, named_text};
+ghost use Rattle.author_cli.specs.Given.{filled_given};
 ghost use Rattle.author_cli.specs.Traced.{IsTraced, IsRefusedAs, state_detail};
 ghost use Rattle.author_cli.specs.Ends.{words_of};
 ghost use Rattle.author_cli.specs.private.TracedViews.{IsRunOf, SaysBlocked};
 
 use crate::answer::Answer;
-use crate::given::fill_given;
+use crate::given::{fill_given, given_words};
 use carry_bindings::{Blocked, Filled};
 use pap_plan::{Plan, PlanRefusal, accept};
 use payroll_records::{Day, Employee, Record, Values};
-use plain_words::{TextFile, plan_words, state_words};
+use plain_words::{TextFile, plan_words};
 use plan_answers::{refusal, refused};
 use plan_notes::read_notes;
 use run_trace::run_text;
@@ -56,7 +59,9 @@ fn trace_accepted(
         Filled::Inputs(inputs) => {
             tell_run(alloc, plan.bytes, judged, &record.values, inputs.as_slice())
         }
-        Filled::State(state) => answer_blocked(alloc, plan, limits, &state),
+        Filled::State(state) => {
+            answer_blocked(alloc, plan, limits, judged, &record.values, &state)
+        }
     }
 }
 
@@ -94,15 +99,18 @@ fn answer_blocked(
     alloc: Global,
     plan: TextFile<'_>,
     limits: TextFile<'_>,
+    judged: &Plan,
+    values: &Values,
     state: &Blocked,
 ) -> Result<Answer, AllocError>
-    requires { (day : Date) → state.now ≢ Blocked.Waits day }
-    ensures { IfOk result (λ answer. SaysBlocked
-        (named_text plan.entry) (named_text limits.entry) state.now answer.text.items (words_of answer.reason)) }
+    requires alone { (day : Date) → state.now ≢ Blocked.Waits day }
+    requires blocked { filled_given (accepted judged.now) values.now ≡ State state.now }
+    ensures { IfOk result (λ answer. SaysBlocked (accepted judged.now) values.now
+        (files_of plan.entry limits.entry) state.now answer.text.items (words_of answer.reason)) }
 {
     let detail = state_detail(alloc, state)?;
     let reply = refusal(alloc, detail.as_bytes())?;
-    let reason = state_words(alloc, plan, limits, state)?;
+    let reason = given_words(alloc, plan, limits, judged, values, state)?;
     Ok(Answer {
         text: reply.text,
         reason: Some(reason),

@@ -1,10 +1,10 @@
 -- The reasons that each value and each input add, and the first of all.
 use Rattle.std.proofs.Common.{◌≡◌, ℕ, zero, suc, ◌+◌, ◌<◌, List, [], ◌∷◌, ◌++◌, take, get_or, length, Bool, true, false, cond, Option, Some, None, refl, sym, ap, ap₂, ◌∙◌, add-one, append_assoc, arith}
-use Rattle.std.specs.Prelude.{map, filter, option_map, slice_get, not, is_none, is_some}
-use Rattle.std.specs.List.{find}
-use Rattle.std.specs.Option.{option_or, option_map_or}
+use Rattle.std.specs.Prelude.{map, filter, option_map, option_and_then, slice_get, not, is_none, is_some}
+use Rattle.std.specs.List.{cons_option, filter_map, find}
+use Rattle.std.specs.Option.{option_or, option_map_or, option_to_list}
 use Rattle.std.proofs.lemmas.List.{map-append}
-use Rattle.std.proofs.lemmas.List.Elements.{filter-append}
+use Rattle.std.proofs.lemmas.List.Elements.{filter-append, filter_map-append}
 use Rattle.std.proofs.Math.Seq.{take-suc}
 use Rattle.scaled_decimal.specs.Decimals.{Decimal}
 use Rattle.limits_file.specs.declared.slots.Slot.{Slot}
@@ -18,7 +18,10 @@ use Rattle.pay_run.proofs.Laws.{are_slots}
 use Rattle.carry_bindings.specs.declared.filling.Blocked.{Blocked}
 use Rattle.carry_bindings.specs.declared.filling.Blocked.TheVariants as blocked
 use Rattle.carry_bindings.specs.Filling.{first_of, fits, has_carry, inputs, missing, outside, takes, unknown, value_of, waits}
-use Rattle.diagnostics.specs.RunReasons.{FirstReasonIsNamed, missing_reasons, named_reason, outside_reasons, reasons_by, run_reasons, unknown_reasons}
+use Rattle.plain_words.specs.declared.state.RunReason.{RunReason}
+use Rattle.plain_words.specs.declared.state.RunReason.TheVariants as whys
+use Rattle.plain_words.specs.States.{blocked_by}
+use Rattle.diagnostics.specs.RunReasons.{FirstReasonIsNamed, missing_reasons, named_reason, outside_reason, outside_reasons, reasons_by, run_reasons, unfit_reason, unknown_reasons}
 
 -- ---- what is made of the elements that pass a test
 
@@ -47,13 +50,13 @@ module _ {X Y : Type 0} (f : X → Y) (p : X → Bool) where
 -- ---- one value, one input
 
 pub unknown_more : (slots : List Slot) (values : List NamedValue) (i : ℕ) (name : List ℕ) → i < length values → name ≡ get_or (map name_of values) i name →
-    unknown_reasons slots (take (suc i) values) ≡ unknown_reasons slots (take i values) ++ cond (not (takes slots name)) (blocked.Unknown name ∷ []) []
+    unknown_reasons slots (take (suc i) values) ≡ unknown_reasons slots (take i values) ++ cond (not (takes slots name)) (whys.Unknown name ∷ []) []
 unknown_more slots [] i name l is = absurd (omega arith)
-unknown_more slots (v ∷ vs) zero name l is = rw is (picked-one (λ (w : NamedValue). blocked.Unknown w.name) (λ w. not (takes slots w.name)) v)
+unknown_more slots (v ∷ vs) zero name l is = rw is (picked-one (λ (w : NamedValue). whys.Unknown w.name) (λ w. not (takes slots w.name)) v)
 unknown_more slots (v ∷ vs) (suc i) name l is =
-    let own = cond (not (takes slots v.name)) (blocked.Unknown v.name ∷ []) [] in
-    let new = cond (not (takes slots name)) (blocked.Unknown name ∷ []) [] in
-    let cons = picked-cons (λ (w : NamedValue). blocked.Unknown w.name) (λ w. not (takes slots w.name)) v in
+    let own = cond (not (takes slots v.name)) (whys.Unknown v.name ∷ []) [] in
+    let new = cond (not (takes slots name)) (whys.Unknown name ∷ []) [] in
+    let cons = picked-cons (λ (w : NamedValue). whys.Unknown w.name) (λ w. not (takes slots w.name)) v in
     cons (take (suc i) vs) ∙ ap (λ t. own ++ t) (unknown_more slots vs i name (omega arith) is)
     ∙ sym (append_assoc own (unknown_reasons slots (take i vs)) new) ∙ ap (λ t. t ++ new) (sym (cons (take i vs)))
 
@@ -63,17 +66,23 @@ none_told o true e = sym (ap not e)
 none_told o false e = sym (ap not e)
 
 pub missing_more : (slots : List Slot) (values : List NamedValue) (i : ℕ) (s : Slot) (lacks : Bool) → i < length slots → s ≡ get_or slots i s →
-    lacks ≡ is_none (value_of values [] s) → missing_reasons (take i slots) values ++ cond lacks (blocked.Missing s.name ∷ []) [] ≡ missing_reasons (take (i + 1) slots) values
+    lacks ≡ is_none (value_of values [] s) → missing_reasons (take i slots) values ++ cond lacks (whys.Missing s.name ∷ []) [] ≡ missing_reasons (take (i + 1) slots) values
 missing_more slots values i s lacks l is e =
-    ap (λ b. missing_reasons (take i slots) values ++ cond b (blocked.Missing s.name ∷ []) []) e
-    ∙ sym (picked_more (λ (t : Slot). blocked.Missing t.name) (λ t. is_none (value_of values [] t)) slots i s l is)
+    ap (λ b. missing_reasons (take i slots) values ++ cond b (whys.Missing s.name ∷ []) []) e
+    ∙ sym (picked_more (λ (t : Slot). whys.Missing t.name) (λ t. is_none (value_of values [] t)) slots i s l is)
 
-pub outside_more : (slots : List Slot) (values : List NamedValue) (i : ℕ) (s : Slot) (inside : Bool) → i < length slots → s ≡ get_or slots i s →
-    inside ≡ option_map_or (fits s.limit) (value_of values [] s) true →
-    outside_reasons (take i slots) values ++ cond (not inside) (blocked.Range s.name ∷ []) [] ≡ outside_reasons (take (i + 1) slots) values
-outside_more slots values i s inside l is e =
-    ap (λ b. outside_reasons (take i slots) values ++ cond (not b) (blocked.Range s.name ∷ []) []) e
-    ∙ sym (picked_more (λ (t : Slot). blocked.Range t.name) (λ t. not (option_map_or (fits t.limit) (value_of values [] t) true)) slots i s l is)
+-- what is made of one element, in a list
+one_made : {X Y : Type 0} (f : X → Option Y) (x : X) (own : Option Y) → f x ≡ own → filter_map f (x ∷ []) ≡ option_to_list own
+one_made f x None e = ap (λ o. filter_map (λ _. o) (x ∷ [])) e
+one_made f x (Some y) e = ap (λ o. filter_map (λ _. o) (x ∷ [])) e
+
+pub outside_more : (slots : List Slot) (values : List NamedValue) (i : ℕ) (s : Slot) (own : Option RunReason) → i < length slots → s ≡ get_or slots i s →
+    own ≡ outside_reason values s →
+    outside_reasons (take i slots) values ++ option_to_list own ≡ outside_reasons (take (i + 1) slots) values
+outside_more slots values i s own l is e =
+    let more : take (i + 1) slots ≡ take i slots ++ (s ∷ []) = rw (add-one, take-suc slots i s l, ← is) refl in
+    sym (ap (λ ss. outside_reasons ss values) more ∙ filter_map-append (outside_reason values) (take i slots) (s ∷ [])
+    ∙ ap (λ t. outside_reasons (take i slots) values ++ t) (one_made (outside_reason values) s own (sym e)))
 
 -- ---- the first of all
 
@@ -81,9 +90,33 @@ first_append : {X : Type 0} (xs ys : List X) → slice_get (xs ++ ys) 0 ≡ opti
 first_append [] ys = refl
 first_append (x ∷ xs) ys = refl
 
-map_twice : {X Y Z : Type 0} (f : X → Y) (g : Y → Z) (o : Option X) → option_map (λ x. g (f x)) o ≡ option_map g (option_map f o)
-map_twice f g None = refl
-map_twice f g (Some x) = refl
+map_or : {X Y : Type 0} (f : X → Y) (a b : Option X) → option_map f (option_or a b) ≡ option_or (option_map f a) (option_map f b)
+map_or f None b = refl
+map_or f (Some x) b = refl
+
+-- the answer of a reason that names what it is of
+answer_of_name : {X : Type 0} (name : X → List ℕ) (f : List ℕ → RunReason) (g : List ℕ → Blocked) → ((n : List ℕ) → blocked_by (f n) ≡ g n) → (o : Option X) →
+    option_map blocked_by (option_map (λ x. f (name x)) o) ≡ option_map g (option_map name o)
+answer_of_name name f g is None = refl
+answer_of_name name f g is (Some x) = ap Some (is (name x))
+
+-- one input before the others: either its value doesn't fit, or the first is among the others
+outside_before : (s : Slot) (later : List RunReason) (found : Option Slot) (value : Option Decimal) →
+    option_map blocked_by (slice_get later 0) ≡ option_map blocked.Range (option_map (λ (t : Slot). t.name) found) →
+    option_map blocked_by (slice_get (cons_option (option_and_then (unfit_reason s) value) later) 0)
+    ≡ option_map blocked.Range (option_map (λ (t : Slot). t.name) (cond (not (option_map_or (fits s.limit) value true)) (Some s) found))
+outside_before s later found None h = h
+outside_before s later found (Some value) h =
+    elim (fits s.limit value) as (λ b. option_map blocked_by (slice_get (cons_option (cond b None (Some (whys.Outside s.name value s.limit))) later) 0)
+    ≡ option_map blocked.Range (option_map (λ (t : Slot). t.name) (cond (not b) (Some s) found)))
+    [ true ↦ h | false ↦ refl ]
+
+first_outside : (slots : List Slot) (values : List NamedValue) →
+    option_map blocked_by (slice_get (outside_reasons slots values) 0) ≡ option_map blocked.Range (outside slots values [])
+first_outside [] values = refl
+first_outside (s ∷ slots) values =
+    outside_before s (outside_reasons slots values) (find (λ t. not (option_map_or (fits t.limit) (value_of values [] t) true)) slots) (value_of values [] s)
+    (first_outside slots values)
 
 first_by : (u m o : Option (List ℕ)) (values : List Decimal) →
     option_or (option_map blocked.Unknown u) (option_or (option_map blocked.Missing m) (option_map blocked.Range o))
@@ -97,19 +130,20 @@ first_by None None None values = refl
 waits_none : (slots : List Slot) → waits slots [] ≡ None
 waits_none slots = elim (has_carry slots) as (λ b. cond b (option_map (λ (e : Earlier). e.day) None) None ≡ None) [ true ↦ refl | false ↦ refl ]
 
-first_of_slots : (slots : List Slot) (values : List NamedValue) → slice_get (reasons_by slots values) 0 ≡ named_reason (first_of (waits slots []) (unknown slots values) (missing slots values []) (outside slots values []) (inputs slots values []))
+first_of_slots : (slots : List Slot) (values : List NamedValue) → option_map blocked_by (slice_get (reasons_by slots values) 0) ≡ named_reason (first_of (waits slots []) (unknown slots values) (missing slots values []) (outside slots values []) (inputs slots values []))
 first_of_slots slots values =
     let strange = unknown_reasons slots values in
     let lacking = missing_reasons slots values in
     let beyond = outside_reasons slots values in
-    let first_unknown : slice_get strange 0 ≡ option_map blocked.Unknown (unknown slots values) =
-    first_picked (λ (v : NamedValue). blocked.Unknown v.name) (λ v. not (takes slots v.name)) values ∙ map_twice name_of blocked.Unknown _ in
-    let first_missing : slice_get lacking 0 ≡ option_map blocked.Missing (missing slots values []) =
-    first_picked (λ (s : Slot). blocked.Missing s.name) (λ s. is_none (value_of values [] s)) slots ∙ map_twice (λ (s : Slot). s.name) blocked.Missing _ in
-    let first_outside : slice_get beyond 0 ≡ option_map blocked.Range (outside slots values []) =
-    first_picked (λ (s : Slot). blocked.Range s.name) (λ s. not (option_map_or (fits s.limit) (value_of values [] s) true)) slots ∙ map_twice (λ (s : Slot). s.name) blocked.Range _ in
-    first_append strange (lacking ++ beyond)
-    ∙ ap₂ option_or first_unknown (first_append lacking beyond ∙ ap₂ option_or first_missing first_outside)
+    let first_unknown : option_map blocked_by (slice_get strange 0) ≡ option_map blocked.Unknown (unknown slots values) =
+    ap (λ o. option_map blocked_by o) (first_picked (λ (v : NamedValue). whys.Unknown v.name) (λ v. not (takes slots v.name)) values)
+    ∙ answer_of_name name_of whys.Unknown blocked.Unknown (λ n. refl) _ in
+    let first_missing : option_map blocked_by (slice_get lacking 0) ≡ option_map blocked.Missing (missing slots values []) =
+    ap (λ o. option_map blocked_by o) (first_picked (λ (s : Slot). whys.Missing s.name) (λ s. is_none (value_of values [] s)) slots)
+    ∙ answer_of_name (λ (s : Slot). s.name) whys.Missing blocked.Missing (λ n. refl) _ in
+    ap (λ o. option_map blocked_by o) (first_append strange (lacking ++ beyond) ∙ ap (λ o. option_or (slice_get strange 0) o) (first_append lacking beyond))
+    ∙ map_or blocked_by (slice_get strange 0) (option_or (slice_get lacking 0) (slice_get beyond 0))
+    ∙ ap₂ option_or first_unknown (map_or blocked_by (slice_get lacking 0) (slice_get beyond 0) ∙ ap₂ option_or first_missing (first_outside slots values))
     ∙ first_by (unknown slots values) (missing slots values []) (outside slots values []) (inputs slots values [])
     ∙ ap (λ w. named_reason (first_of w (unknown slots values) (missing slots values []) (outside slots values []) (inputs slots values []))) (sym (waits_none slots))
 
@@ -118,14 +152,14 @@ unfolding filled run_reasons
 first_named p values = first_of_slots (slots_of p) values
 
 -- the slots of a plan are those that its definition names
-pub slots_reasons : (p : Accepted) (slots : List Slot) (values : List NamedValue) (reasons : List Blocked) → AreSlots p.meaning.limits p.meaning.flowchart.inputs slots →
+pub slots_reasons : (p : Accepted) (slots : List Slot) (values : List NamedValue) (reasons : List RunReason) → AreSlots p.meaning.limits p.meaning.flowchart.inputs slots →
     reasons ≡ reasons_by slots values → reasons ≡ run_reasons p values
 unfolding run_reasons
 slots_reasons p slots values reasons are is =
     is ∙ ap (λ s. reasons_by s values) (sym (are_slots p.meaning.limits p.meaning.flowchart.inputs slots are))
 
 -- the lists behind one another
-pub three_reasons : (slots : List Slot) (values : List NamedValue) (start one two three : List Blocked) → start ≡ [] → one ≡ start ++ unknown_reasons slots values →
+pub three_reasons : (slots : List Slot) (values : List NamedValue) (start one two three : List RunReason) → start ≡ [] → one ≡ start ++ unknown_reasons slots values →
     two ≡ one ++ missing_reasons slots values → three ≡ two ++ outside_reasons slots values → three ≡ reasons_by slots values
 three_reasons slots values start one two three none first second third =
     third ∙ ap (λ l. l ++ outside_reasons slots values) (second ∙ ap (λ l. l ++ missing_reasons slots values) (first ∙ ap (λ l. l ++ unknown_reasons slots values) none))

@@ -2,8 +2,8 @@
 use Rattle.std.specs.Prelude.{◌≡◌, ℕ, ◌-◌, nat_lt, if◌then◌else◌, List, [], ◌∷◌, ◌++◌, codes, length, take}
 use Rattle.std.specs.List.{flat_map, AllZip}
 use Rattle.std.specs.Fmt.{decimal}
-use Rattle.carry_bindings.specs.declared.filling.Blocked.{Blocked}
 use Rattle.pap_plan.specs.declared.refusal.PlanRefusal.{PlanRefusal}
+use Rattle.plain_words.specs.declared.state.RunReason.{RunReason}
 use Rattle.plain_words.specs.Lines.{IsOneLine}
 use Rattle.plain_words.specs.Places.{PlanFiles}
 use Rattle.plain_words.specs.Refusals.{BeginsAtRefusal}
@@ -33,6 +33,6 @@ pub record IsPlanLine (files : PlanFiles) (refusal : PlanRefusal) (words : List 
   pub begins : BeginsAtRefusal files refusal words
 
 -- the words say in one line why a run of these files' plan has no inputs
-pub record IsStateLine (files : PlanFiles) (state : Blocked) (words : List ℕ) : Type 0 where
+pub record IsStateLine (files : PlanFiles) (reason : RunReason) (words : List ℕ) : Type 0 where
   pub line : IsOneLine words
-  pub begins : SaysState files state words
+  pub begins : SaysState files reason words

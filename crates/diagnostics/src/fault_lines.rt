@@ -6,9 +6,8 @@ ghost use Rattle.plain_words.specs.Places.{files_of};
 ghost use Rattle.diagnostics.specs.FaultLines.{IsPlanLine, IsStateLine, TellsEach, lines_with, more_line};
 ghost use Rattle.diagnostics.specs.private.LineViews.{IsFaultLine};
 
-use carry_bindings::Blocked;
 use pap_plan::PlanRefusal;
-use plain_words::{TextFile, plan_words, state_words};
+use plain_words::{RunReason, TextFile, plan_words, state_words};
 use plan_text::PlanFault;
 use std::alloc::{AllocError, Global};
 
@@ -45,18 +44,18 @@ pub fn state_lines(
     alloc: Global,
     plan: TextFile<'_>,
     limits: TextFile<'_>,
-    states: &[Blocked],
+    reasons: &[RunReason],
 ) -> Result<String, AllocError>
     ensures { IfOk result (λ text. TellsEach (IsStateLine (files_of plan.entry limits.entry))
-        states.now (string_bytes text)) }
+        reasons.now (string_bytes text)) }
 {
-    let told = front(states, MOST_TOLD);
+    let told = front(reasons, MOST_TOLD);
     let mut text = String::new(alloc);
-    for state in told {
-        let words = state_words(alloc, plan, limits, state)?;
+    for reason in told {
+        let words = state_words(alloc, plan, limits, reason)?;
         put_line(&mut text, &words)?;
     }
-    put_more(&mut text, states.len() - told.len())?;
+    put_more(&mut text, reasons.len() - told.len())?;
     Ok(text)
 }
 

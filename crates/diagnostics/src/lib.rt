@@ -8,5 +8,5 @@ mod refusals;
 
 pub use expressions::{expression_faults, expression_laws};
 pub use fault_lines::{MOST_TOLD, plan_lines, state_lines};
-pub use reasons::{reason_laws, run_reasons};
+pub use reasons::{reason_laws, run_reasons, slot_reasons};
 pub use refusals::refusal_lines;

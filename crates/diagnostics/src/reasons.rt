@@ -1,26 +1,40 @@
 //! All reasons why a run has no inputs.
-ghost use Rattle.std.specs.Prelude.{◌≡◌, ◌∷◌, ◌++◌, [], IfOk, OnOk, if◌then◌else◌, not, is_none, true};
-ghost use Rattle.std.specs.Option.{option_map_or};
-ghost use Rattle.carry_bindings.specs.Filling.{fits, takes, value_of};
-ghost use Rattle.diagnostics.specs.RunReasons.{missing_reasons, outside_reasons, run_reasons, unknown_reasons, FirstReasonIsNamed};
+ghost use Rattle.std.specs.Prelude.{◌≡◌, ◌∷◌, ◌++◌, [], IfOk, OnOk, if◌then◌else◌, not, is_none};
+ghost use Rattle.std.specs.Option.{option_to_list};
+ghost use Rattle.carry_bindings.specs.Filling.{takes, value_of};
+ghost use Rattle.diagnostics.specs.RunReasons.{missing_reasons, outside_reason, outside_reasons, reasons_by, run_reasons, unknown_reasons, FirstReasonIsNamed};
 ghost use Rattle.pay_run.specs.Accepted.{accepted};
 
-use carry_bindings::Blocked;
 use limits_file::Slot;
 use pap_plan::Plan;
 use pap_tree::Name;
 use payroll_records::Values;
+use plain_words::RunReason;
 use scaled_decimal::Dec;
 use std::alloc::{AllocError, Global};
 
 /// All reasons why a run of a plan on these values, without earlier runs, has no inputs: each value that no input takes, then each input
-/// without a value, then each whose value is outside its range. None where it has inputs. It takes time in proportion to the values
-/// times the inputs, of which there are at most 256 each. Fails only for lack of memory.
-pub fn run_reasons(alloc: Global, plan: &Plan, values: &Values) -> Result<Vec<Blocked>, AllocError>
+/// without a value, then each whose value is outside its range, with both. None where it has inputs. It takes time in proportion to the
+/// values times the inputs, of which there are at most 256 each. Fails only for lack of memory.
+pub fn run_reasons(
+    alloc: Global,
+    plan: &Plan,
+    values: &Values,
+) -> Result<Vec<RunReason>, AllocError>
     ensures { IfOk result
         (λ reasons. reasons.items ≡ run_reasons (accepted plan.now) values.now) }
 {
-    let slots = plan.spec().slots.as_slice();
+    slot_reasons(alloc, plan.spec().slots.as_slice(), values)
+}
+
+/// All reasons why a run of these inputs on these values, without earlier runs, has none, as [`run_reasons`] gives them of a plan's.
+pub fn slot_reasons(
+    alloc: Global,
+    slots: &[Slot],
+    values: &Values,
+) -> Result<Vec<RunReason>, AllocError>
+    ensures { IfOk result (λ reasons. reasons.items ≡ reasons_by slots.now values.now) }
+{
     let mut reasons = Vec::new(alloc);
     put_unknown(&mut reasons, slots, values)?;
     put_missing(&mut reasons, slots, values)?;
@@ -30,7 +44,7 @@ pub fn run_reasons(alloc: Global, plan: &Plan, values: &Values) -> Result<Vec<Bl
 
 /// Appends a reason for each value that no input takes.
 fn put_unknown(
-    reasons: &mut Vec<Blocked>,
+    reasons: &mut Vec<RunReason>,
     slots: &[Slot],
     values: &Values,
 ) -> Result<(), AllocError>
@@ -38,14 +52,14 @@ fn put_unknown(
         ≡ reasons.old.items ++ unknown_reasons slots.now values.now) }
 {
     for name in values.names() {
-        put_if(reasons, !takes(slots, name), Blocked::Unknown(*name))?;
+        put_if(reasons, !takes(slots, name), RunReason::Unknown(*name))?;
     }
     Ok(())
 }
 
 /// Appends a reason for each input without a value.
 fn put_missing(
-    reasons: &mut Vec<Blocked>,
+    reasons: &mut Vec<RunReason>,
     slots: &[Slot],
     values: &Values,
 ) -> Result<(), AllocError>
@@ -54,14 +68,14 @@ fn put_missing(
 {
     for slot in slots {
         let value = value_of(values, slot);
-        put_if(reasons, value.is_none(), Blocked::Missing(slot.name))?;
+        put_if(reasons, value.is_none(), RunReason::Missing(slot.name))?;
     }
     Ok(())
 }
 
 /// Appends a reason for each input whose value is outside its range.
 fn put_outside(
-    reasons: &mut Vec<Blocked>,
+    reasons: &mut Vec<RunReason>,
     slots: &[Slot],
     values: &Values,
 ) -> Result<(), AllocError>
@@ -69,19 +83,44 @@ fn put_outside(
         ≡ reasons.old.items ++ outside_reasons slots.now values.now) }
 {
     for slot in slots {
-        let inside = is_inside(values, slot);
-        put_if(reasons, !inside, Blocked::Range(slot.name))?;
+        put_some(reasons, outside_reason(values, slot))?;
     }
     Ok(())
 }
 
+/// The reason for an input whose value is outside its range.
+fn outside_reason(values: &Values, slot: &Slot) -> Option<RunReason>
+    ensures { result ≡ outside_reason values.now slot.now }
+{
+    let value = value_of(values, slot)?;
+    if slot.limit.fits(value) {
+        return None;
+    }
+    Some(RunReason::Outside {
+        name: slot.name,
+        value,
+        limit: slot.limit,
+    })
+}
+
 /// Appends a reason where it is one.
-fn put_if(reasons: &mut Vec<Blocked>, is_one: bool, reason: Blocked) -> Result<(), AllocError>
+fn put_if(reasons: &mut Vec<RunReason>, is_one: bool, reason: RunReason) -> Result<(), AllocError>
     ensures { OnOk result (reasons.new.items
         ≡ reasons.old.items ++ (if is_one then reason ∷ [] else [])) }
 {
     if is_one {
         reasons.push(reason)?;
+    }
+    Ok(())
+}
+
+/// Appends a reason where there is one.
+fn put_some(reasons: &mut Vec<RunReason>, reason: Option<RunReason>) -> Result<(), AllocError>
+    ensures { OnOk result (reasons.new.items
+        ≡ reasons.old.items ++ option_to_list reason) }
+{
+    if let Some(own) = reason {
+        reasons.push(own)?;
     }
     Ok(())
 }
@@ -105,18 +144,7 @@ fn value_of(values: &Values, slot: &Slot) -> Option<Dec>
     values.find(&slot.name).or(slot.value)
 }
 
-/// Whether the value of an input, where it has one, is inside its range.
-fn is_inside(values: &Values, slot: &Slot) -> bool
-    ensures { result
-        ≡ option_map_or (fits slot.now.limit) (value_of values.now [] slot.now) true }
-{
-    match value_of(values, slot) {
-        Some(value) => slot.limit.fits(value),
-        None => true,
-    }
-}
-
-/// A law, with nothing to run: the first of all reasons is the one with which `once` is refused.
+/// A law, with nothing to run: the first of all reasons tells of the answer with which `once` is refused.
 pub fn reason_laws()
     ensures { FirstReasonIsNamed }
 {}

@@ -22,6 +22,7 @@ use Rattle.diagnostics.specs.FurtherFaults.{TellsFaults}
 use Rattle.diagnostics.specs.RunReasons.{named_reason, run_reasons}
 use Rattle.diagnostics.proofs.Laws.{first_named}
 use Rattle.plain_words.specs.Places.{PlanFiles}
+use Rattle.plain_words.specs.declared.state.RunReason.{RunReason}
 use Rattle.plan_answers.specs.Answers.{Answer}
 use Rattle.plan_answers.specs.Fronts.{AreFronts}
 use Rattle.script_run.specs.declared.stop.Stop.{Stop}
@@ -111,7 +112,7 @@ tells_state values files p h text t = inr (record {
       (subst (λ b. TellsReasons values (record { plan = b; limits = p.limits; meaning = meaning p }) files text) h.plan_bytes t);
 })
 
-pub tells_reasons : (values given : List NamedValue) (p : Accepted) (files : PlanFiles) (state : Blocked) (reasons : List Blocked)
+pub tells_reasons : (values given : List NamedValue) (p : Accepted) (files : PlanFiles) (state : Blocked) (reasons : List RunReason)
     → filled p values [] ≡ State state → given ≡ values → reasons ≡ run_reasons p given
     → (text : List ℕ) → TellsEach (IsStateLine files) reasons text → TellsReasons values p files text
 tells_reasons values given p files state reasons is same are text h = record {

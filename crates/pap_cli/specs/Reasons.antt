@@ -1,5 +1,5 @@
 -- Why an answer on two files is a refusal, in plain words.
-use Rattle.std.specs.Prelude.{◌≡◌, ◌⊎◌, ℕ, List, [], Option, Some, slice_get}
+use Rattle.std.specs.Prelude.{◌≡◌, ◌⊎◌, ℕ, List, [], Option, Some, option_map, slice_get}
 use Rattle.std.specs.Option.{ForSome}
 use Rattle.outside.specs.Told.{FileMap}
 use Rattle.payroll_records.specs.declared.values.NamedValue.{NamedValue}
@@ -13,6 +13,7 @@ use Rattle.diagnostics.specs.FaultLines.{IsStateLine, TellsEach}
 use Rattle.diagnostics.specs.FurtherFaults.{TellsFaults}
 use Rattle.diagnostics.specs.RunReasons.{run_reasons}
 use Rattle.plain_words.specs.Places.{PlanFiles}
+use Rattle.plain_words.specs.States.{blocked_by}
 use Rattle.plan_answers.specs.Fronts.{AreFronts}
 use Rattle.pap_cli.specs.Words.{Form, check, once}
 
@@ -27,11 +28,11 @@ files_on plan limits bytes ranges = record {
 abbrev pub accepted_files : PlanFiles → Meaning → Accepted
 accepted_files files meaning = record { plan = files.plan.bytes; limits = files.ranges.bytes; meaning = meaning }
 
--- a run of this plan on these values has no inputs: the text tells all reasons, and the first is the one that is answered
+-- a run of this plan on these values has no inputs: the text tells all reasons, and the first tells more of the one that is answered
 pub record TellsReasons (values : List NamedValue) (p : Accepted) (files : PlanFiles) (text : List ℕ) : Type 0 where
   pub state : Blocked
   pub blocked : filled p values [] ≡ State state
-  pub first : slice_get (run_reasons p values) 0 ≡ Some state
+  pub first : option_map blocked_by (slice_get (run_reasons p values) 0) ≡ Some state
   pub tells : TellsEach (IsStateLine files) (run_reasons p values) text
 
 -- the plan of these files is refused: the text tells that in its first line, and then further faults
@@ -40,8 +41,8 @@ pub record TellsRefusal (files : PlanFiles) (text : List ℕ) : Type 0 where
   pub refused : IsRefused files.plan.bytes files.ranges.bytes refusal
   pub tells : TellsFaults files refusal text
 
--- these files are accepted, and a run on these values has no inputs: the text tells all reasons, of which the first is the one that
--- is answered
+-- these files are accepted, and a run on these values has no inputs: the text tells all reasons, of which the first tells more of the
+-- one that is answered
 pub record TellsState (values : List NamedValue) (files : PlanFiles) (text : List ℕ) : Type 0 where
   pub meaning : Meaning
   pub accepted : IsAccepted files.plan.bytes files.ranges.bytes meaning

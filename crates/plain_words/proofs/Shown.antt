@@ -1,6 +1,7 @@
 -- What is shown of texts that stand one behind another, and of what helps.
 use Rattle.std.proofs.Common.{◌≡◌, ◌≢◌, ℕ, List, [], ◌++◌, refl, sym, ap, ◌∙◌, append_assoc}
-use Rattle.std.specs.Prelude.{Option, None, Some, IfSome, Result, Ok, Err, IfOk, map, codes, encode_utf8_all}
+use Rattle.std.specs.Prelude.{Option, None, Some, IfSome, Result, Ok, Err, IfOk, OnOk, map, codes, encode_utf8_all}
+use Rattle.std.specs.declared.alloc.AllocError.{AllocError}
 use Rattle.std.specs.Char.{encode_utf8}
 use Rattle.std.specs.Str.{IsUtf8, chars}
 use Rattle.std.proofs.lemmas.List.{map-append}
@@ -24,14 +25,17 @@ use Rattle.interval_analysis.specs.declared.fault.RangeFault.{RangeFault}
 use Rattle.interval_analysis.specs.declared.fault.RangeFault.TheVariants as ranges
 use Rattle.pap_plan.specs.declared.refusal.PlanRefusal.{PlanRefusal}
 use Rattle.pap_plan.specs.declared.refusal.PlanRefusal.TheVariants as refusals
-use Rattle.carry_bindings.specs.declared.filling.Blocked.{Blocked}
 use Rattle.plain_words.specs.declared.found.Found.{Found}
+use Rattle.scaled_decimal.specs.Decimals.{Decimal}
+use Rattle.limits_file.specs.declared.limits.InputLimit.{InputLimit}
+use Rattle.plain_words.specs.declared.state.RunReason.{RunReason}
+use Rattle.plain_words.specs.declared.state.RunReason.TheVariants as reasons
 use Rattle.plain_words.specs.Lines.{shown_char, shown_text, EndsWith}
 use Rattle.plain_words.specs.Places.{PlanFiles, words_at}
 use Rattle.plain_words.specs.Helps.{read_help, expression_help, type_help, order_help, limits_help, cause_help}
 use Rattle.plain_words.specs.Helps.{range_help, help_of}
 use Rattle.plain_words.specs.Refusals.{IsPlaceOf, BeginsAtRefusal}
-use Rattle.plain_words.specs.States.{state_text, state_help, IsPlaceOfState, SaysState}
+use Rattle.plain_words.specs.States.{outside_text, input_value_text, state_text, state_help, IsPlaceOfState, SaysState}
 use Rattle.plain_words.specs.private.FoundViews.{place_of, help_text, HelpsAs}
 
 shown-append : (a b : List ℕ) → IsUtf8 a → shown_text (a ++ b) ≡ shown_text a ++ shown_text b
@@ -148,9 +152,9 @@ begins_at_refusal files r found wrong words is helps some says ends = record {
   helps = ends_with_help r found words helps ends;
 }
 
--- ---- the words of a state
+-- ---- the words of a run without inputs
 
-pub says_state : (files : PlanFiles) (s : Blocked) (f g : Found) (wrong words : List ℕ)
+pub says_state : (files : PlanFiles) (s : RunReason) (f g : Found) (wrong words : List ℕ)
     → IsPlaceOfState s (place_of f) → place_of g ≡ place_of f → help_text g ≡ state_help s → wrong ≡ state_text s
     → words ≡ words_at files (place_of g) (wrong ++ (codes "; " ++ help_text g)) → SaysState files s words
 says_state files s f g wrong words is same helps told says = record {
@@ -160,6 +164,15 @@ says_state files s f g wrong words is same helps told says = record {
       ∙ ap (λ w. words_at files (place_of f) (w ++ (codes "; " ++ help_text g))) told
       ∙ ap (λ h. words_at files (place_of f) (state_text s ++ (codes "; " ++ h))) helps;
 }
+
+-- a value out of its range, and what it breaks
+pub value_told : {A : Type 0} (done : Result A AllocError) (before between after : List ℕ) (reason : RunReason) (name : List ℕ) (value : Decimal) (limit : InputLimit)
+    → reason ≡ reasons.Outside name value limit → between ≡ before ++ input_value_text name value
+    → OnOk done (after ≡ between ++ outside_text value limit) → OnOk done (after ≡ before ++ state_text reason)
+value_told (Ok a) before between after reason name value limit is first second =
+    second ∙ ap (λ t. t ++ outside_text value limit) first ∙ append_assoc before (input_value_text name value) (outside_text value limit)
+    ∙ ap (λ r. before ++ state_text r) (sym is)
+value_told (Err e) before between after reason name value limit is first second = tt
 
 pub if_ok_both : {A E : Type 0} (r : Result A E) (P Q R : A → Type 0) → ((a : A) → P a → Q a → R a)
     → IfOk r P → IfOk r Q → IfOk r R

@@ -1,5 +1,5 @@
 -- In which file of a plan a refusal stands, at which byte where its place is pinned to one, and how its words end.
-use Rattle.std.specs.Prelude.{◌≡◌, ℕ, List, ◌++◌, codes, map, Some, None, IfSome, IsTrue, ⊤}
+use Rattle.std.specs.Prelude.{◌≡◌, ◌<◌, ◌⊎◌, ℕ, List, ◌++◌, codes, map, slice_get, Some, None, IfSome, IsTrue, ⊤}
 use Rattle.pap_reader.specs.declared.fault.Which.{Which}
 use Rattle.pap_reader.specs.declared.fault.Which.TheVariants as which
 use Rattle.pap_reader.specs.declared.fault.ReadFault.{ReadFault}
@@ -32,13 +32,22 @@ IsPlaceOfExcess which.Bytes place = place ≡ in_plan None
 IsPlaceOfExcess which.Depth place = place ≡ in_plan None
 IsPlaceOfExcess _ place = IsInPlan place
 
+-- behind the first byte of a tag a < or & stands at this byte, which would have to be escaped in a value
+pub record IsUnescapedAt (plan : List ℕ) (at to : ℕ) : Type 0 where
+  pub behind : at < to
+  pub sign : (slice_get plan to ≡ Some 60) ⊎ (slice_get plan to ≡ Some 38)
+
+-- the byte at which what isn't read is shown: its first, or in a tag that of a < or & that isn't escaped
+abbrev pub IsStopByte : List ℕ → ℕ → ℕ → Type 0
+IsStopByte plan at to = (to ≡ at) ⊎ IsUnescapedAt plan at to
+
 -- what isn't read stands at its byte
-abbrev pub IsPlaceOfFault : ReadFault → PlanPlace → Type 0
-IsPlaceOfFault (reads.Text at) place = place ≡ in_plan (Some at)
-IsPlaceOfFault (reads.Element at) place = place ≡ in_plan (Some at)
-IsPlaceOfFault (reads.Attribute at) place = place ≡ in_plan (Some at)
-IsPlaceOfFault (reads.Many excess) place = IsPlaceOfExcess excess place
-IsPlaceOfFault reads.Memory place = ⊥
+abbrev pub IsPlaceOfFault : List ℕ → ReadFault → PlanPlace → Type 0
+IsPlaceOfFault plan (reads.Text at) place = (to : ℕ) × IsStopByte plan at to × (place ≡ in_plan (Some to))
+IsPlaceOfFault plan (reads.Element at) place = place ≡ in_plan (Some at)
+IsPlaceOfFault plan (reads.Attribute at) place = place ≡ in_plan (Some at)
+IsPlaceOfFault plan (reads.Many excess) place = IsPlaceOfExcess excess place
+IsPlaceOfFault plan reads.Memory place = ⊥
 
 -- a range file that is too long is refused as a whole
 abbrev pub IsPlaceOfLimits : LimitsFault → PlanPlace → Type 0
@@ -59,7 +68,7 @@ pub record IsPlaceOfUnmatched (plan name : List ℕ) (place : PlanPlace) : Type 
 
 -- the place of a refusal of a plan whose flowchart's file has these bytes
 abbrev pub IsPlaceOf : List ℕ → PlanRefusal → PlanPlace → Type 0
-IsPlaceOf plan (refusals.Read fault) place = IsPlaceOfFault fault place
+IsPlaceOf plan (refusals.Read fault) place = IsPlaceOfFault plan fault place
 IsPlaceOf plan (refusals.Limits fault) place = IsPlaceOfLimits fault place
 IsPlaceOf plan (refusals.LimitName name) place = IsPlaceOfUnmatched plan name place
 IsPlaceOf plan (refusals.LimitKind name) place = IsInRanges place

@@ -1,14 +1,16 @@
 //! Where the elements of a plan's file are refused.
-ghost use Rattle.std.specs.Prelude.{◌≡◌, Some, IfOk, IfSome};
+ghost use Rattle.std.specs.Prelude.{◌≡◌, ◌⊎◌, Some, IfOk, IfSome, slice_get};
+ghost use Rattle.std.specs.Bool.{OnTrue};
+ghost use Rattle.pap_reader.specs.declared.fault.ReadFault.TheVariants.{Text};
 ghost use Rattle.plain_words.specs.Places.{in_plan};
-ghost use Rattle.plain_words.specs.Refusals.{IsPlaceOfFault, IsPlaceOfExcess};
+ghost use Rattle.plain_words.specs.Refusals.{IsPlaceOfFault, IsPlaceOfExcess, IsStopByte};
 ghost use Rattle.plain_words.specs.private.FoundViews.{place_of, HasTag, IsExcessByte};
 
 use crate::encoding::is_utf16;
 use crate::found::Found;
 use crate::place::TextFile;
 use crate::quotes::write_quoted;
-use crate::tags::{first_line, tag_stop, write_attribute_fault};
+use crate::tags::{TagStop, first_line, tag_stop, write_attribute_fault};
 use pap_reader::{ReadFault, Which};
 use pap_tree::{
     MOST_CONSTANTS, MOST_INPUTS, MOST_INTERNALS, MOST_METHODS, MOST_OUTPUTS, MOST_STATEMENTS,
@@ -22,7 +24,8 @@ pub(crate) fn find_element(
     fault: &ReadFault,
     told: &mut String,
 ) -> Result<Found, AllocError>
-    ensures { IfOk result (λ found. IsPlaceOfFault fault.now (place_of found)) }
+    ensures { IfOk result
+        (λ found. IsPlaceOfFault plan.entry.bytes.now fault.now (place_of found)) }
 {
     let found = match fault {
         ReadFault::Text { at } => find_text(plan, *at, told)?,
@@ -42,16 +45,16 @@ pub(crate) fn find_element(
     Ok(found)
 }
 
-/// Where no tag, comment or white space begins; what is wrong there is appended.
+/// Where no tag, comment or white space begins, or where a tag has a < or & that isn't escaped; what is wrong there is appended.
 fn find_text(plan: TextFile<'_>, at: usize, told: &mut String) -> Result<Found, AllocError>
-    ensures { IfOk result (λ found. place_of found ≡ in_plan (Some at)) }
+    ensures { IfOk result
+        (λ found. IsPlaceOfFault plan.entry.bytes.now (Text at) (place_of found)) }
 {
     let text = text_from(plan.bytes, at);
-    let found = Found::in_plan(Some(at));
     if let Some(help) = text_help(text) {
         told.push_str("expected a tag, a comment or white space")?;
         write_line(told, text)?;
-        return Ok(found.with_help(help));
+        return Ok(Found::in_plan(Some(at)).with_help(help));
     }
     let stop = tag_stop(text);
     stop.write(told)?;
@@ -59,7 +62,31 @@ fn find_text(plan: TextFile<'_>, at: usize, told: &mut String) -> Result<Found, 
         told.push_str(", in the tag ")?;
         write_quoted(told, first_line(text), 0)?;
     }
-    Ok(found.with_help(stop.help()))
+    let to = stop_byte(plan.bytes, at, stop);
+    Ok(Found::in_plan(Some(to)).with_help(stop.help()))
+}
+
+/// The byte at which a tag that begins at a byte is shown to stop: that of a < or & that isn't escaped in a value, and else the first.
+fn stop_byte(plan: &[u8], at: usize, stop: TagStop<'_>) -> usize
+    ensures { IsStopByte plan.now at result }
+{
+    let to = plan.len().saturating_sub(stop.left.len());
+    if stop.is_in_value() && at < to && is_sign(plan, to) {
+        to
+    } else {
+        at
+    }
+}
+
+/// Whether a < or & stands at a byte.
+fn is_sign(plan: &[u8], at: usize) -> bool
+    ensures { OnTrue result
+        ((slice_get plan.now at ≡ Some 60) ⊎ (slice_get plan.now at ≡ Some 38)) }
+{
+    match plan.get(at) {
+        Some(byte) => *byte == b'<' || *byte == b'&',
+        None => false,
+    }
 }
 
 /// Where a tag has an attribute that isn't as its element needs it; what is wrong with it is appended.

@@ -32,5 +32,5 @@ pub use counting::position;
 pub use lines::one_line;
 pub use place::{Position, TextFile};
 pub use plan::plan_words;
-pub use state::state_words;
+pub use state::{RunReason, state_words};
 pub use table::table_words;

@@ -52,13 +52,24 @@ fn find_key(limits: TextFile<'_>, label: &Label, told: &mut String) -> Result<Fo
             }
         }
     }
-    write!(
-        told,
-        "the key {label} isn't one of a range file, or has no entries"
-    )?;
+    if is_section(label) {
+        write!(told, "the key {label} isn't a table of entries")?;
+    } else {
+        write!(told, "the key {label} isn't one of a range file")?;
+    }
     let help = "a range file has entries [input.NAME] and [bind.NAME] alone";
     let at = section_byte(limits.bytes, label.as_str().as_bytes());
     Ok(Found::in_ranges(at).with_help(help))
+}
+
+/// Whether a key of the range file itself is that of a section.
+fn is_section(label: &Label) -> bool {
+    for section in SECTIONS {
+        if label.as_str() == section.name() {
+            return true;
+        }
+    }
+    false
 }
 
 /// What is told of an entry of a section.

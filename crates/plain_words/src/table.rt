@@ -10,7 +10,7 @@ use crate::position;
 use crate::quotes::write_quoted;
 use crate::table_row::{TableRow, earlier_row, find_row};
 use pap_tree::Name;
-use payroll_records::{MOST_VALUES, TableFault};
+use payroll_records::{Day, MOST_VALUES, TableFault};
 use std::alloc::{AllocError, Global};
 use std::collections::BTreeSet;
 
@@ -104,13 +104,18 @@ fn write_width_fault(told: &mut String, table: &[u8], row: &TableRow) -> Result<
 
 /// Appends what a row has in place of a day, and what helps.
 fn write_day_fault(told: &mut String, row: &TableRow) -> Result<(), AllocError> {
+    let day = row.field(2);
     told.push_str("the day is ")?;
-    write_quoted(told, row.field(2), 0)?;
+    write_quoted(told, day, 0)?;
+    if Day::read(day).is_some() {
+        told.push_str(", which isn't in the month ")?;
+        write_quoted(told, row.field(1), 0)?;
+        return told.push_str("; correct one of the two");
+    }
     told.push_str(
-        ", and not of the form YYYY-MM-DD, not in the calendar, not of the years 1900 to 2999 or not in the month ",
+        ", and not of the form YYYY-MM-DD, not in the calendar or not of the years 1900 to 2999",
     )?;
-    write_quoted(told, row.field(1), 0)?;
-    told.push_str(if row.field(2).contains(&b'.') {
+    told.push_str(if day.contains(&b'.') {
         "; write the year first, then month and day with - between them, as 2025-01-31"
     } else {
         "; write it as 2025-01-31"
@@ -181,10 +186,23 @@ fn write_heading(told: &mut String, header: &TableRow) -> Result<(), AllocError>
             let number = place.saturating_add(1);
             write!(told, "field {number} of the first row is ")?;
             write_quoted(told, field, 0)?;
-            return write!(told, ", and not `{word}`");
+            write!(told, ", and not `{word}`")?;
+            return told.push_str(spelling_words(field, word));
         }
     }
     write_columns(told, header)
+}
+
+/// What a field has beside a word, where it has only blanks or other capitals.
+fn spelling_words(field: &[u8], word: &str) -> &'static str {
+    let inner = field.trim_ascii();
+    if inner == word.as_bytes() {
+        " without blanks round it"
+    } else if inner.eq_ignore_ascii_case(word.as_bytes()) {
+        " in small letters"
+    } else {
+        ""
+    }
 }
 
 /// Appends what is wrong with the names of a first row, whose first fields are right.
@@ -194,9 +212,16 @@ fn write_columns(told: &mut String, header: &TableRow) -> Result<(), AllocError>
         let field = header.field(place);
         let number = place.saturating_add(1);
         if field.is_empty() {
-            return write!(told, "field {number} of the first row is empty");
+            write!(told, "field {number} of the first row is empty")?;
+            return told.push_str(if number == header.len() {
+                ", behind a comma at its end"
+            } else {
+                ""
+            });
         }
-        let wrong = if Name::read(field).is_none() {
+        let wrong = if Name::read(field.trim_ascii()).is_some() && Name::read(field).is_none() {
+            "is a name with blanks round it"
+        } else if Name::read(field).is_none() {
             "isn't a name"
         } else if !seen.insert(field)? {
             "stands there twice"

@@ -56,6 +56,11 @@ fn behind_value(text: &[u8], quote: u8) -> &[u8]
 }
 
 impl TagStop<'_> {
+    /// Whether it stops at a byte of a value in the line in which that begins.
+    pub(crate) fn is_in_value(self) -> bool {
+        self.attribute.is_some() && !self.is_broken
+    }
+
     /// Appends why a tag stops there, and what stands there.
     pub(crate) fn write(self, out: &mut String) -> Result<(), AllocError> {
         let Some(attribute) = self.attribute else {

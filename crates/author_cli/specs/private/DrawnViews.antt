@@ -8,16 +8,16 @@ use Rattle.pap_plan.specs.AcceptanceClauses.{IsAcceptedAs}
 use Rattle.plan_notes.specs.declared.notes.Notes.{Notes}
 use Rattle.plan_notes.specs.Notes.{HasNotes}
 use Rattle.plain_words.specs.Lines.{IsOneLine}
-use Rattle.plain_words.specs.Places.{named_text}
-use Rattle.plain_words.specs.States.{SaysState}
+use Rattle.pay_run.specs.Accepted.{accepted}
+use Rattle.plain_words.specs.Places.{files_of}
 use Rattle.flowchart_page.specs.Findings.{IsFound}
 use Rattle.flowchart_page.specs.Judged.{finding_of, words_of, HasLine}
 use Rattle.flowchart_page.specs.Pages.{IsRunPage}
-use Rattle.flowchart_page.specs.Verdicts.{files_with}
 use Rattle.source_lines.specs.Lines.{lines_of_file}
 use Rattle.run_trace.specs.ShownRuns.{RunPieces, ShowsRun}
 use Rattle.run_trace.specs.RunPages.{blocked_part}
 use Rattle.author_cli.specs.declared.drawn.Judged.{Judged}
+use Rattle.author_cli.specs.Given.{SaysGiven}
 use Rattle.author_cli.specs.Drawn.{shown_run, shown_part, blocked_line}
 
 -- the plan is accepted from the bytes of both files, and this is the verdict on it
@@ -38,9 +38,10 @@ pub record DrawsRun (j : Judged) (f : Flowchart) (given : List NamedValue) (inpu
   pub silent : reason ≡ None
 
 -- the page of the plan says why a run has no inputs
-pub record DrawsBlocked (j : Judged) (state : Blocked) (text : List ℕ) (reason : Option (List ℕ)) : Type 0 where
+pub record DrawsBlocked (j : Judged) (values : List NamedValue) (state : Blocked) (text : List ℕ) (reason : Option (List ℕ))
+    : Type 0 where
   pub words : List ℕ
   pub said : reason ≡ Some words
   pub line : IsOneLine words
-  pub says : SaysState (files_with (named_text j.plan) (Some (named_text j.limits))) state words
+  pub says : SaysGiven (accepted j.accepted.now) values (files_of j.plan j.limits) state words
   pub page : IsRunPage (Some (shown_part (blocked_part words (blocked_line state)))) j.plan.bytes.now (Some j.limits.bytes.now) None text

@@ -8,11 +8,11 @@ use Rattle.plan_answers.specs.Lines.{refusal_line}
 use Rattle.plan_notes.specs.declared.notes.Notes.{Notes}
 use Rattle.plan_notes.specs.Notes.{HasNotes}
 use Rattle.plain_words.specs.Lines.{IsOneLine}
-use Rattle.plain_words.specs.Places.{NamedText}
-use Rattle.plain_words.specs.States.{SaysState}
-use Rattle.flowchart_page.specs.Verdicts.{files_with}
+use Rattle.pay_run.specs.Accepted.{Accepted}
+use Rattle.plain_words.specs.Places.{PlanFiles}
 use Rattle.source_lines.specs.Lines.{lines_of_file}
 use Rattle.run_trace.specs.RunTexts.{TellsRun}
+use Rattle.author_cli.specs.Given.{SaysGiven}
 use Rattle.author_cli.specs.Traced.{state_detail}
 
 -- the text tells of a run of this flowchart, with the lines of the file
@@ -24,9 +24,10 @@ pub record IsRunOf (file : List ℕ) (f : Flowchart) (given : List NamedValue) (
   pub silent : reason ≡ None
 
 -- the line of a run that has no inputs, and the words that say why
-pub record SaysBlocked (plan limits : NamedText) (state : Blocked) (text : List ℕ) (reason : Option (List ℕ)) : Type 0 where
+pub record SaysBlocked (p : Accepted) (values : List NamedValue) (files : PlanFiles) (state : Blocked) (text : List ℕ)
+    (reason : Option (List ℕ)) : Type 0 where
   pub written : text ≡ refusal_line (state_detail state)
   pub words : List ℕ
   pub said : reason ≡ Some words
   pub line : IsOneLine words
-  pub says : SaysState (files_with plan (Some limits)) state words
+  pub says : SaysGiven p values files state words

@@ -1,4 +1,4 @@
-use Rattle.std.proofs.Common.{subst}
+use Rattle.std.proofs.Common.{subst, sym, ◌∙◌}
 use Rattle.pap_plan.specs.Plans.{flowchart}
 use Rattle.pay_run.specs.Accepted.{accepted}
 use Rattle.pay_run.specs.RunClauses.{AdmitsFilled}
@@ -36,8 +36,11 @@ pub returns : goal.returns
 returns c =
     let j = c.args.judged in
     if_ok_map c.draw_blocked.result
-    (λ answer. DrawsBlocked j c.in-State.state answer.text.items (words_of answer.reason))
+    (λ answer. DrawsBlocked j c.record_of-record.result.values c.in-State.state answer.text.items (words_of answer.reason))
     (λ answer. IsDrawn c.args.values (named_text j.plan) (named_text j.limits) answer.text.items (words_of answer.reason))
     (λ answer h. drawn_blocked c.args.values c.record_of-record.result.values j c.in-State.state _ answer.text.items
     (words_of answer.reason) c.requires c.record_of-record.ensures c.in-State.is c.in_ok-inputs.ensures.are h)
     c.draw_blocked.ensures
+
+pub draw_blocked-requires-clause-blocked : goal.draw_blocked-requires-clause-blocked
+draw_blocked-requires-clause-blocked c = sym c.in_ok-inputs.ensures.are ∙ c.in-State.is

@@ -1,8 +1,8 @@
-use Rattle.std.proofs.Common.{subst}
+use Rattle.std.proofs.Common.{subst, sym, ◌∙◌}
 use Rattle.pap_plan.specs.Plans.{flowchart}
 use Rattle.pay_run.specs.Accepted.{accepted}
 use Rattle.pay_run.specs.RunClauses.{AdmitsFilled}
-use Rattle.plain_words.specs.Places.{named_text}
+use Rattle.plain_words.specs.Places.{files_of, named_text}
 use Rattle.plan_answers.proofs.Laws.{if_ok_map}
 use Rattle.author_cli.specs.Ends.{words_of}
 use Rattle.author_cli.specs.Traced.{IsTraced}
@@ -14,8 +14,8 @@ pub tell_run-requires : goal.tell_run-requires
 tell_run-requires c =
     rw c.as_slice.ensures (subst (λ f. AdmitsFilled (accepted c.args.judged.now) f) c.in-Inputs.is c.in_ok-inputs.ensures.admitted)
 
-pub answer_blocked-requires : goal.answer_blocked-requires
-answer_blocked-requires c = λ day.
+pub answer_blocked-requires-clause-alone : goal.answer_blocked-requires-clause-alone
+answer_blocked-requires-clause-alone c = λ day.
     waits_for_none (accepted c.args.judged.now) c.record_of-record.result.values c.in-State.state _ day c.in-State.is
     c.in_ok-inputs.ensures.are
 
@@ -36,8 +36,11 @@ returns c =
     let plan = named_text c.args.plan in
     let limits = named_text c.args.limits in
     if_ok_map c.answer_blocked.result
-    (λ answer. SaysBlocked plan limits c.in-State.state answer.text.items (words_of answer.reason))
+    (λ answer. SaysBlocked (accepted c.args.judged.now) c.record_of-record.result.values (files_of c.args.plan c.args.limits) c.in-State.state answer.text.items (words_of answer.reason))
     (λ answer. IsTraced c.args.values plan limits answer.text.items (words_of answer.reason))
     (λ answer h. blocked_run c.args.values c.record_of-record.result.values plan limits c.args.judged.now c.in-State.state _
     answer.text.items (words_of answer.reason) c.requires c.record_of-record.ensures c.in-State.is c.in_ok-inputs.ensures.are h)
     c.answer_blocked.ensures
+
+pub answer_blocked-requires-clause-blocked : goal.answer_blocked-requires-clause-blocked
+answer_blocked-requires-clause-blocked c = sym c.in_ok-inputs.ensures.are ∙ c.in-State.is

@@ -4,5 +4,5 @@ use Rattle.diagnostics.specs.FaultLines.{IsStateLine}
 use Rattle.diagnostics.specs.private.LineViews.{TellsAll}
 use Rattle.diagnostics.proofs.fault_lines.state_lines.Given as goal
 
-abbrev pub invariant-loop-state : goal.invariant-loop-state
-invariant-loop-state l = TellsAll (IsStateLine (files_of l.plan l.limits)) (take l.state-index l.told) (string_bytes l.text)
+abbrev pub invariant-loop-reason : goal.invariant-loop-reason
+invariant-loop-reason l = TellsAll (IsStateLine (files_of l.plan l.limits)) (take l.reason-index l.told) (string_bytes l.text)

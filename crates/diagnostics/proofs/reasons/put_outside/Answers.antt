@@ -1,6 +1,5 @@
-use Rattle.std.proofs.Common.{[], ◌∷◌, ◌++◌, ◌∙◌, ap, take, cond, append_assoc}
-use Rattle.std.specs.Prelude.{not}
-use Rattle.carry_bindings.specs.declared.filling.Blocked.TheVariants as blocked
+use Rattle.std.proofs.Common.{◌++◌, ◌∙◌, ap, take, append_assoc}
+use Rattle.std.specs.Option.{option_to_list}
 use Rattle.diagnostics.specs.RunReasons.{outside_reasons}
 use Rattle.diagnostics.proofs.ReasonLemmas.{outside_more}
 use Rattle.diagnostics.proofs.reasons.put_outside.Goals as goal
@@ -11,8 +10,8 @@ loop-slot-preserved c =
     let values = c.args.values.now in
     let l = c.loop-slot in
     let slot = c.slot-item.result in
-    let inside = c.is_inside-inside.result in
+    let reason = c.outside_reason.result in
     let old = c.args.reasons.now.items in
-    let own = cond (not inside) (blocked.Range slot.name ∷ []) [] in
-    c.in_ok-put_if.ensures ∙ ap (λ t. t ++ own) l.invariant ∙ append_assoc old (outside_reasons (take l.slot-index slots) values) own
-    ∙ ap (λ t. old ++ t) (outside_more slots values l.slot-index slot inside c.loop-slot-test.true c.slot-item.is c.is_inside-inside.ensures)
+    let own = option_to_list reason in
+    c.in_ok-put_some.ensures ∙ ap (λ t. t ++ own) l.invariant ∙ append_assoc old (outside_reasons (take l.slot-index slots) values) own
+    ∙ ap (λ t. old ++ t) (outside_more slots values l.slot-index slot reason c.loop-slot-test.true c.slot-item.is c.outside_reason.ensures)

@@ -10,7 +10,7 @@ returns-clause-place c =
     let files = files_of c.args.plan c.args.limits in
     let found = c.with_help-found in
     IfOk-weaker c.reason_line.result _ _
-    (λ words says. says_state files c.args.state.now c.in_ok-find_blocked.field-0 found.result c.deref.result.now
-    (string_bytes words) c.in_ok-find_blocked.ensures found.ensures.place (found.ensures.help ∙ c.state_help.ensures)
+    (λ words says. says_state files c.args.reason.now c.in_ok-find_reason.field-0 found.result c.deref.result.now
+    (string_bytes words) c.in_ok-find_reason.ensures found.ensures.place (found.ensures.help ∙ c.state_help.ensures)
     (search rules) says)
     c.reason_line.ensures.text
