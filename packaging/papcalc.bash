@@ -34,12 +34,14 @@ _pap_author() {
     local word=${COMP_WORDS[COMP_CWORD]} command=${COMP_WORDS[1]}
     COMPREPLY=()
     if [ "$COMP_CWORD" -eq 1 ]; then
-        COMPREPLY=($(compgen -W 'chart ranges trace example lint compare text --help --version' -- "$word"))
+        COMPREPLY=($(compgen -W 'chart ranges trace example lint compare cover text --help --version' -- "$word"))
         return
     fi
     case $command:$COMP_CWORD in
-        chart:2 | ranges:2 | trace:2 | example:2 | lint:2) _papcalc_files xml "$word" ;;
-        chart:3 | trace:3 | example:3 | lint:3) _papcalc_files toml "$word" ;;
+        chart:2 | ranges:2 | trace:2 | example:2 | lint:2 | cover:2) _papcalc_files xml "$word" ;;
+        chart:3 | trace:3 | example:3 | lint:3 | cover:3) _papcalc_files toml "$word" ;;
+        cover:4) _papcalc_files csv "$word" ;;
+        cover:5) COMPREPLY=($(compgen -W '--at-least' -- "$word")) ;;
         trace:*) _papcalc_inputs "${COMP_WORDS[2]}" "$word" ;;
         compare:2 | compare:4) _papcalc_files xml "$word" ;;
         compare:3) _papcalc_files '[tx]*ml' "$word" ;;

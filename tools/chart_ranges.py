@@ -2,7 +2,8 @@
 
 Each EVAL to which runs may come has one line, its range; a statement that is dead has none but the words that say so, and is read aloud as
 dead. On every input within the ranges no dead statement is executed, no exit that is never taken is taken, and each value that is put lies
-in its range. Pages that are changed so that a range is too narrow, or a statement or an exit is dead that isn't, have to be refused."""
+in its range. In the table of declarations an internal has the hull of its first value and of the ranges at the EVALs that assign it. Pages
+that are changed so that a range is too narrow, or a statement or an exit is dead that isn't, have to be refused."""
 import html
 import os
 import random
@@ -17,18 +18,20 @@ import chart_walk
 
 GROUP = re.compile(r'<g id="(\w+:\d+)" role="group" aria-label="([^"]*)" class="s( dead)?">(.*?)</g>', re.S)
 LINE = re.compile(r'<text class="v" x="\d+" y="\d+">(.*?)</text>')
+BELOW = re.compile(r'<text class="p v" x="\d+" y="\d+">(.*?)</text>')
 RANGE = re.compile(r"(-?\d+(?:\.\d+)?)(?: \.\. (-?\d+(?:\.\d+)?))?")
 NEVER = re.compile(r'<text class="(?:y dead" x="\d+" y="\d+">(yes|no) never|e dead" x="\d+" y="\d+">(yes|no))</text>')
 DEAD = "never executed within the ranges"
+ROW = re.compile(r'<tr id="name-(\w+)"><th scope="row">\1<td>([^<]*)<td class="num">([^<]*)<td class="num">([^<]*)<td>')
 
 
 def statements_of(text):
-    """The tag of each statement of a flowchart's text, by its place."""
+    """Each statement of a flowchart's text, by its place."""
     found = {}
 
     def take(method, statements):
         for statement in statements:
-            found["%s:%d" % (method, sum(place.split(":")[0] == method for place in found))] = statement.tag
+            found["%s:%d" % (method, sum(place.split(":")[0] == method for place in found))] = statement
             for branch in statement if statement.tag == "IF" else []:
                 take(method, branch)
 
@@ -37,11 +40,39 @@ def statements_of(text):
     return found
 
 
+def ends_of(line):
+    """The ends of a range as it is written, each with its places."""
+    least, greatest = RANGE.fullmatch(line).groups()
+    return [Decimal(least), Decimal(greatest or least)]
+
+
+def hull_of(values):
+    """The least range around values, as it is written: with the most places of any."""
+    places = max(-value.as_tuple().exponent for value in values)
+    least, greatest = (format(end, ".%df" % places) for end in (min(values), max(values)))
+    return least if Decimal(least) == Decimal(greatest) else "%s .. %s" % (least, greatest)
+
+
+def internal_faults(text, page, statements, told):
+    """Faults of the ranges of the internals in the table of declarations."""
+    rows = {name: [html.unescape(cell) for cell in cells] for name, *cells in ROW.findall(page)}
+    for internal in ET.fromstring(text).iter("INTERNAL"):
+        name = internal.get("name")
+        kind, first, shown = rows.get(name, ["", "", "no row"])
+        values = [Decimal(first or "0").quantize(Decimal("0.001")) if kind == "double" else Decimal(first or "0")]
+        for place, statement in statements.items():
+            if statement.tag == "EVAL" and statement.get("exec").split("=")[0].strip() == name and not told[place].is_dead:
+                values += ends_of(told[place].lines[0])
+        if shown != hull_of(values):
+            yield "the internal %s has the range %s and not %s" % (name, shown, hull_of(values))
+
+
 class Told:
     """What the drawing tells of a statement."""
 
     def __init__(self, caption, is_dead, drawn):
         self.is_dead, self.lines = is_dead, [html.unescape(line) for line in LINE.findall(drawn)]
+        self.below = BELOW.findall(drawn)
         words = re.search(r"; (within the ranges|dead)((?:; .*)?)$", html.unescape(caption))
         self.words, rest = words.groups() if words else ("", "")
         ways = re.search(r"; ways? never taken: (yes, no|yes|no)$", rest)
@@ -51,6 +82,8 @@ class Told:
     def faults(self, place, tag):
         if self.is_dead != (self.words == "dead"):
             yield "%s isn't read aloud as it is drawn" % place
+        if self.below != ["unreachable"] * (self.is_dead and tag == "EXECUTE"):
+            yield "%s says %s below its place" % (place, self.below)
         if self.is_dead:
             if self.spoken != [DEAD] or self.lines != [DEAD] * (tag != "EXECUTE") or self.never:
                 yield "%s is dead, but says %s" % (place, self.lines)
@@ -75,7 +108,8 @@ def runs_of(binary, plan, limits, inputs):
 
 def range_faults(text, page, lines):
     """Faults of the page of an accepted flowchart beside the lines of its runs."""
-    tags = statements_of(text)
+    statements = statements_of(text)
+    tags = {place: statement.tag for place, statement in statements.items()}
     told = {place: Told(caption, bool(dead), drawn) for place, caption, dead, drawn in GROUP.findall(page)}
     if set(told) != set(tags) or '<main class="ranged">' not in page:
         return ["the statements of the page aren't those of the flowchart, or it has no ranges"]
@@ -84,6 +118,7 @@ def range_faults(text, page, lines):
         faults.append("the words at the exits aren't those that are read aloud")
     if faults:
         return faults
+    faults += internal_faults(text, page, statements, told)
     for line in lines:
         method, number, target, value, answer = chart_run.LINE.fullmatch(line).group(1, 2, 4, 5, 9)
         place = "%s:%s" % (method, number)
@@ -98,7 +133,10 @@ def range_faults(text, page, lines):
 
 def with_ranges_changed(page, lines):
     """The page where a statement that a run executes is dead, for each, where its range is beyond its values, and where its exit is never
-    taken."""
+    taken; and where an internal's range has a value more."""
+    for match in ROW.finditer(page):
+        if ".." in match.group(4):
+            yield page[:match.start(4)] + "-1" + page[match.start(4) + match.group(4).index(" "):]
     run = {line.split("  ")[0] for line in lines}
     for match in GROUP.finditer(page):
         if match.group(1) in run:

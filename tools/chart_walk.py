@@ -10,6 +10,7 @@ NUMBER = r"-?\d+"
 STEP_TO_WORD = 6
 WORD_BELOW = 16
 STEP_TO_BRANCH = 44
+TOLD = re.compile(r"never|missed|\d+")
 
 
 class Lost(Exception):
@@ -41,7 +42,7 @@ class Drawing:
     """The symbols, words and lines of a method's drawing."""
 
     def __init__(self, svgs):
-        self.symbols, self.words, self.verticals, self.horizontals, self.begins = [], {}, {}, {}, {}
+        self.symbols, self.words, self.told, self.verticals, self.horizontals, self.begins = [], {}, {}, {}, {}, {}
         heads = set()
         for svg in svgs:
             for element in svg.iter():
@@ -76,9 +77,12 @@ class Drawing:
         kind = (text.get("class") or " ").split(" ")[0]
         if kind in ("y", "e"):
             away = STEP_TO_WORD if kind == "y" else -STEP_TO_WORD
-            words = [word for word in text.text.split(" ") if word != "never"]
-            if words:
-                self.words.setdefault(int(text.get("y")), []).append((int(text.get("x")) - away, " ".join(words)))
+            x, y, words = int(text.get("x")) - away, int(text.get("y")), text.text.split(" ")
+            told = [word for word in words if TOLD.fullmatch(word)]
+            if told:
+                self.told.setdefault((x, y), []).extend(told)
+            if len(told) < len(words):
+                self.words.setdefault(y, []).append((x, " ".join(word for word in words if word not in told)))
 
     def take_lines(self, data):
         for x, y, way, end in re.findall(r"M(%s) (%s)([VH])(%s)" % ((NUMBER,) * 3), data):
@@ -137,6 +141,14 @@ class Drawing:
             if symbol.left <= x <= symbol.right:
                 for word in text.split(" or "):
                     yield word, x
+
+    def told_of_exits(self):
+        """What stands behind the word of each exit of a test that has a line of its own."""
+        for symbol in self.symbols:
+            ways = list(self.ways(symbol)) if symbol.kind == "test" else []
+            if len({x for _, x in ways}) == 2:
+                for word, x in ways:
+                    yield symbol.places()[0], word, " ".join(self.told.get((x, symbol.low + WORD_BELOW), []))
 
     def exits(self, symbol):
         """What leaves a symbol, each with where its line begins."""

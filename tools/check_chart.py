@@ -9,8 +9,8 @@ of its declaration (`chart_table.py`); each statement and each comment is there 
 way of the nearest test it stands, and the characters of its lines; each link leads to a place of the page, each id stands once, and the drawings are well-formed XML; there
 is no script, and nothing that is fetched; there is one verdict, and no element, attribute or comment that could hide it; what the
 verdict of a refused plan links to is marked, and of another nothing is. Pages that are changed so that a word, a line, a caption or
-the verdict is wrong have to be refused. The page of a run says what the text of the run does (`chart_run.py`), and so does the page of a
-comparison (`chart_compare.py`); what the page of an accepted flowchart says of all runs holds of its runs (`chart_ranges.py`). Of a range
+the verdict is wrong have to be refused. The page of a run says what the text of the run does (`chart_run.py`); so do the page of a comparison
+(`chart_compare.py`) and that of what a table covers (`chart_cover.py`). What the page of an accepted flowchart says of all runs holds of its runs (`chart_ranges.py`). Of a range
 file that is begun for a plan of random inputs: the plan is accepted with it, and
 the page shows the range of each name."""
 import os
@@ -22,6 +22,7 @@ import tempfile
 import xml.etree.ElementTree as ET
 
 import chart_compare
+import chart_cover
 import chart_ranges
 import chart_run
 import chart_table
@@ -412,7 +413,8 @@ def main():
     range_faults, ranged, dead, range_refused, range_changed = chart_ranges.check_ranges(binary, max(2, count // 3), count)
     plans = [Plan(rng).text() for _ in range(count)]
     other_faults, others, other_refused, other_changed = chart_compare.check_comparisons(binary, plans, count)
-    for fault in run_faults[:10] + range_faults[:10] + other_faults[:10]:
+    cover_faults, covers, cover_refused, cover_changed = chart_cover.check_covers(binary, max(2, count // 6), count)
+    for fault in run_faults[:10] + range_faults[:10] + other_faults[:10] + cover_faults[:10]:
         print(fault)
     print("%d pages, %d with faults, %d lines followed, %d parts of cut drawings, %d of %d changed pages refused"
           % (count, failed, lines, parts, refused, changed))
@@ -420,9 +422,12 @@ def main():
     print("%d pages with ranges, %d dead statements, %d faults, %d of %d changed pages refused"
           % (ranged, dead, len(range_faults), range_refused, range_changed))
     print("%d pages of comparisons, %d faults, %d of %d changed pages refused" % (others, len(other_faults), other_refused, other_changed))
-    tried_nothing = 0 in (count, runs, ranged, dead, others)
-    let_through = refused < changed or run_refused < run_changed or range_refused < range_changed or other_refused < other_changed
-    sys.exit(1 if failed or run_faults or range_faults or other_faults or tried_nothing or let_through else 0)
+    print("%d pages of tables, %d faults, %d of %d changed pages refused" % (covers, len(cover_faults), cover_refused, cover_changed))
+    tried_nothing = 0 in (count, runs, ranged, dead, others, covers)
+    let_through = (refused < changed or run_refused < run_changed or range_refused < range_changed or other_refused < other_changed
+                   or cover_refused < cover_changed)
+    any_faults = failed or run_faults or range_faults or other_faults or cover_faults
+    sys.exit(1 if any_faults or tried_nothing or let_through else 0)
 
 
 if __name__ == "__main__":

@@ -10,7 +10,7 @@ import re
 import sys
 
 ANSWERS = ["plan_answers", "script_steps", "script_run", "report_csv", "open_runs", "pap_cli", "saved_items", "book_file", "what_if",
-           "run_trace", "coverage_text", "failing_input", "flowchart_findings", "flowchart_comparison", "comparison_page", "author_cli"]
+           "run_trace", "coverage_text", "coverage_page", "failing_input", "flowchart_findings", "flowchart_comparison", "comparison_page", "author_cli"]
 # What these files say is what a program takes, the files and the script of a sample, or the markup of a page, and not a printed line.
 TAKEN = [f"crates/{file}.antt" for file in
          ["pap_cli/specs/Words", "author_cli/specs/Words", "script_run/specs/SampleFiles", "script_run/specs/Samples",

@@ -30,8 +30,6 @@ MAY = {
         "ReadsNothing",
     "of code, and that there is code":
         "body_code",
-    "of the pages of charts, and of those of comparisons":
-        "page_start style_lines style_sheet",
 }
 
 

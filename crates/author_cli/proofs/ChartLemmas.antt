@@ -15,18 +15,21 @@ use Rattle.flowchart_page.specs.Pages.{IsRunPage}
 use Rattle.flowchart_page.specs.Runs.{all_runs}
 use Rattle.flowchart_page.specs.Verdicts.{IsJudged}
 use Rattle.range_marks.specs.RangeMarks.{WalkFindings, AreFindings, range_marks}
+use Rattle.range_marks.specs.InternalRanges.{AreInternalRanges}
 use Rattle.author_cli.specs.Answers.{Answer, IsChart, ShowsRanges, ChartsAccepted, ChartsRefused}
 use Rattle.author_cli.specs.private.ChartViews.{is_memory}
 
--- the page with these marks
-pub ranges_shown : (plan limits : NamedText) (f : Flowchart) (l : Limits) (w : WalkFindings) (marks : List (List Marked)) (answer : Answer)
-    → AreFindings f l w → marks ≡ range_marks f w
-    → IsRunPage (Some (all_runs marks)) plan.bytes (Some limits.bytes) answer.reason answer.text
+-- the page with these marks, and with these ranges of the internals
+pub ranges_shown : (plan limits : NamedText) (f : Flowchart) (l : Limits) (w : WalkFindings) (marks : List (List Marked))
+    (internals : List (List ℕ)) (answer : Answer) → AreFindings f l w → marks ≡ range_marks f w → AreInternalRanges f w internals
+    → IsRunPage (Some (all_runs marks internals)) plan.bytes (Some limits.bytes) answer.reason answer.text
     → IsJudged plan (Some limits) answer.reason → ShowsRanges plan limits f l answer
-ranges_shown plan limits f l w marks answer are is page judged = record {
+ranges_shown plan limits f l w marks internals answer are is are_internals page judged = record {
   findings = w;
   are_findings = are;
-  page = subst (λ ms. IsRunPage (Some (all_runs ms)) plan.bytes (Some limits.bytes) answer.reason answer.text) is page;
+  internals = internals;
+  are_internals = are_internals;
+  page = subst (λ ms. IsRunPage (Some (all_runs ms internals)) plan.bytes (Some limits.bytes) answer.reason answer.text) is page;
   judged = judged;
 }
 

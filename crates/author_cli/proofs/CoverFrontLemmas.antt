@@ -1,4 +1,4 @@
--- The answer of `text cover` on what is read of three files is that on their bytes.
+-- The answer for what runs cover on what is read of three files is that on their bytes.
 use Rattle.std.proofs.Common.{◌≡◌, ℕ, ◌<◌, List, take, inl, inr, refl, sym, subst, arith}
 use Rattle.std.specs.Prelude.{Option, Some, IsSome}
 use Rattle.std.specs.Option.{ForSome}
@@ -12,10 +12,10 @@ use Rattle.plan_answers.proofs.Laws.{whole, longer, front_there, accepted_whole}
 use Rattle.plain_words.specs.Places.{NamedText}
 use Rattle.table_coverage.specs.TableCoverages.{CoverFiles}
 use Rattle.author_cli.specs.declared.covered.CoverBytes.{CoverBytes}
-use Rattle.author_cli.specs.Words.{covered}
+use Rattle.author_cli.specs.Words.{Medium, covered}
 use Rattle.author_cli.specs.Answers.{Answer, file_of, Answers}
 use Rattle.author_cli.specs.CallClauses.{IsMissingOfThree}
-use Rattle.author_cli.specs.Covered.{IsCoverTold, IsRefusedTable, IsFullTable, IsCoveredText}
+use Rattle.author_cli.specs.Covered.{IsCoverTold, IsRefusedTable, IsFullTable, IsCoverAnswer}
 use Rattle.author_cli.specs.private.CoveredViews.{AreThreeFronts}
 use Rattle.author_cli.proofs.FrontLemmas.{refusal_front}
 use Rattle.author_cli.proofs.TellsLemmas.{front}
@@ -48,15 +48,15 @@ module _ (n m k : ℕ) (more_plan : 1048576 < n) (more_limits : 262144 < m) (mor
       (subst (λ b. P (record { plan = plan; limits = b; table = take k table })) l
       (subst (λ b. P (record { plan = b; limits = take m limits; table = take k table })) p h))
 
-  covered_front : (least : Option ℕ) (plan limits : NamedText) (table text : List ℕ) (reason : Option (List ℕ))
-      → IsCoveredText least (front n plan) (front m limits) (take k table) text reason
-      → IsCoveredText least plan limits table text reason
-  covered_front least plan limits table text reason (inl h) =
+  covered_front : (medium : Medium) (least : Option ℕ) (plan limits : NamedText) (table text : List ℕ) (reason : Option (List ℕ))
+      → IsCoverAnswer medium least (front n plan) (front m limits) (take k table) text reason
+      → IsCoverAnswer medium least plan limits table text reason
+  covered_front medium least plan limits table text reason (inl h) =
       let has = h.covered.has in
       let w = accepted_whole n m more_plan more_limits plan.bytes limits.bytes h.covered.meaning has.accepted in
-      inl (whole_files (λ files. IsCoverTold least files text reason) plan.bytes limits.bytes table w.0 w.1
+      inl (whole_files (λ files. IsCoverTold medium least files text reason) plan.bytes limits.bytes table w.0 w.1
       (whole 33554432 k table more_table has.read.short) h)
-  covered_front least plan limits table text reason (inr (inr (inl h))) =
+  covered_front medium least plan limits table text reason (inr (inr (inl h))) =
       let w = accepted_whole n m more_plan more_limits plan.bytes limits.bytes h.refused.meaning h.refused.accepted in
       inr (inr (inl (record {
         fault = h.fault;
@@ -68,12 +68,12 @@ module _ (n m k : ℕ) (more_plan : 1048576 < n) (more_limits : 262144 < m) (mor
         };
         tells = h.tells;
       })))
-  covered_front least plan limits table text reason (inr (inr (inr h))) =
+  covered_front medium least plan limits table text reason (inr (inr (inr h))) =
       let has = h.many.has in
       let w = accepted_whole n m more_plan more_limits plan.bytes limits.bytes h.many.meaning has.accepted in
       inr (inr (inr (whole_files (λ files. IsFullTable files text reason) plan.bytes limits.bytes table w.0 w.1
       (whole 33554432 k table more_table has.read.short) h)))
-  covered_front least plan limits table text reason (inr (inl h)) =
+  covered_front medium least plan limits table text reason (inr (inl h)) =
       inr (inl (h.0, refusal_front n m more_plan more_limits h.0 plan limits text reason h.1))
 
 -- ---- of files that are there
@@ -98,15 +98,15 @@ third_missing plan limits table plan_front limits_front missing read is = inr (
       (subst (λ o. IsSome o) (sym both.plan_there) refl, subst (λ o. IsSome o) (sym both.limits_there) refl),
 )
 
-pub covered_of : (files : FileMap) (least : Option ℕ) (plan limits table : List ℕ) (read : CoverBytes) (a : Answer)
+pub covered_of : (files : FileMap) (medium : Medium) (least : Option ℕ) (plan limits table : List ℕ) (read : CoverBytes) (a : Answer)
     → AreThreeFronts files plan limits table read
-    → IsCoveredText least (file_of plan read.plan.items) (file_of limits read.limits.items) read.table.items a.text a.reason
-    → Answers (covered plan limits table least) files a
-covered_of files least plan limits table read a are h =
+    → IsCoverAnswer medium least (file_of plan read.plan.items) (file_of limits read.limits.items) read.table.items a.text a.reason
+    → Answers (covered medium plan limits table least) files a
+covered_of files medium least plan limits table read a are h =
     let both = are.both in
-    let of_plan = subst (λ b. IsCoveredText least (file_of plan b) (file_of limits read.limits.items) read.table.items a.text a.reason)
+    let of_plan = subst (λ b. IsCoverAnswer medium least (file_of plan b) (file_of limits read.limits.items) read.table.items a.text a.reason)
     both.plan_read h in
-    let of_limits = subst (λ b. IsCoveredText least (file_of plan (take 1048577 both.plan_bytes)) (file_of limits b) read.table.items a.text a.reason)
+    let of_limits = subst (λ b. IsCoverAnswer medium least (file_of plan (take 1048577 both.plan_bytes)) (file_of limits b) read.table.items a.text a.reason)
     both.limits_read of_plan in
     record {
       plan_bytes = both.plan_bytes;
@@ -115,8 +115,8 @@ covered_of files least plan limits table read a are h =
       plan_there = both.plan_there;
       limits_there = both.limits_there;
       table_there = are.table_there;
-      is = covered_front 1048577 262145 33554433 (omega arith) (omega arith) (omega arith) least
+      is = covered_front 1048577 262145 33554433 (omega arith) (omega arith) (omega arith) medium least
           (file_of plan both.plan_bytes) (file_of limits both.limits_bytes) are.table_bytes a.text a.reason
-          (subst (λ b. IsCoveredText least (file_of plan (take 1048577 both.plan_bytes))
+          (subst (λ b. IsCoverAnswer medium least (file_of plan (take 1048577 both.plan_bytes))
           (file_of limits (take 262145 both.limits_bytes)) b a.text a.reason) are.table_read of_limits);
     }

@@ -1,4 +1,4 @@
--- The words of `text cover`.
+-- The words for what runs cover.
 use Rattle.std.proofs.Common.{◌≡◌, Bool, true, false, ℕ, suc, ◌+◌, ◌<◌, ◌≤◌, List, [], ◌∷◌, length, drop, get_or, refl, sym, ap, ◌∙◌, subst, arith}
 use Rattle.std.specs.Prelude.{Option, Some, None, Result, Ok, Err, MatchOption, IfOk, codes, String, string_bytes}
 use Rattle.std.specs.Option.{ForSome}
@@ -13,9 +13,9 @@ use Rattle.std.proofs.lemmas.Fmt.{parse-decimal}
 use Rattle.std.proofs.lemmas.List.{length-map}
 use Rattle.std.proofs.lemmas.Slice.Eq.{bytes_eq-Decides}
 use Rattle.author_cli.specs.declared.words.Request.{Request}
-use Rattle.author_cli.specs.Words.{texts, least_words, HasForm, IsBad}
+use Rattle.author_cli.specs.Words.{texts, Medium, least_words, behind_cover, HasForm, IsBad}
 use Rattle.author_cli.specs.private.CoveredViews.{IsPercent, IsPercentWord}
-use Rattle.author_cli.specs.private.WordViews.{form_of, text_words}
+use Rattle.author_cli.specs.private.WordViews.{form_of}
 use Rattle.author_cli.proofs.WordLemmas.{no_covered}
 
 -- ---- words as texts
@@ -41,9 +41,9 @@ only_three_texts (x ∷ y ∷ z ∷ t ∷ words) w v u a b c least below iw iv i
 -- ---- no form
 
 -- the words behind the names are neither one nor three
-pub neither_one_nor_three : (plan limits : List ℕ) (words : List (String Global)) → ¬ (length words ≡ 1) → ¬ (length words ≡ 3)
-    → IsBad (text_words (codes "cover") plan limits (texts words))
-neither_one_nor_three plan limits words one three = no_covered plan limits (texts words) by
+pub neither_one_nor_three : (m : Medium) (plan limits : List ℕ) (words : List (String Global)) → ¬ (length words ≡ 1) → ¬ (length words ≡ 3)
+    → IsBad (behind_cover m (plan ∷ limits ∷ texts words))
+neither_one_nor_three m plan limits words one three = no_covered m plan limits (texts words) by
   where
     as_many : (list : List (List ℕ)) → texts words ≡ list → length words ≡ length list
     as_many list e = sym (length-map words (λ w. string_bytes w)) ∙ ap (λ w. length w) e
@@ -53,18 +53,18 @@ neither_one_nor_three plan limits words one three = no_covered plan limits (text
     by table (Some n) few e = three (as_many _ e)
 
 -- a second word that isn't `--at-least`
-pub other_option : (plan limits table option share : List ℕ) → ¬ (option ≡ codes "--at-least")
-    → IsBad (text_words (codes "cover") plan limits (table ∷ option ∷ share ∷ []))
-other_option plan limits table option share other = no_covered plan limits (table ∷ option ∷ share ∷ []) by
+pub other_option : (m : Medium) (plan limits table option share : List ℕ) → ¬ (option ≡ codes "--at-least")
+    → IsBad (behind_cover m (plan ∷ limits ∷ table ∷ option ∷ share ∷ []))
+other_option m plan limits table option share other = no_covered m plan limits (table ∷ option ∷ share ∷ []) by
   where
     by : (t : List ℕ) (least : Option ℕ) → ForSome least (λ n. n ≤ 100) → ¬ (table ∷ option ∷ share ∷ [] ≡ t ∷ least_words least)
     by t None few e = let l : 3 ≡ 1 = ap (λ w. length w) e in omega (arith, l)
     by t (Some n) few e = other (ap (λ w. get_or w 1 []) e)
 
 -- a last word that isn't a number of percent
-pub no_percent : (plan limits table share : List ℕ) → ((n : ℕ) → ¬ (IsPercentWord share n))
-    → IsBad (text_words (codes "cover") plan limits (table ∷ codes "--at-least" ∷ share ∷ []))
-no_percent plan limits table share none = no_covered plan limits (table ∷ codes "--at-least" ∷ share ∷ []) by
+pub no_percent : (m : Medium) (plan limits table share : List ℕ) → ((n : ℕ) → ¬ (IsPercentWord share n))
+    → IsBad (behind_cover m (plan ∷ limits ∷ table ∷ codes "--at-least" ∷ share ∷ []))
+no_percent m plan limits table share none = no_covered m plan limits (table ∷ codes "--at-least" ∷ share ∷ []) by
   where
     by : (t : List ℕ) (least : Option ℕ) → ForSome least (λ n. n ≤ 100)
         → ¬ (table ∷ codes "--at-least" ∷ share ∷ [] ≡ t ∷ least_words least)

@@ -1,6 +1,6 @@
--- The answers of `text cover` from what the calls below promise.
-use Rattle.std.proofs.Common.{◌≡◌, ℕ, List, inl, inr, ap, ◌∙◌}
-use Rattle.std.specs.Prelude.{Option, Some}
+-- The answers on what runs cover, from what the calls below promise.
+use Rattle.std.proofs.Common.{◌≡◌, ℕ, List, [], inl, inr, refl, ap, ◌∙◌, subst}
+use Rattle.std.specs.Prelude.{Option, Some, None, Result, Ok, Err}
 use Rattle.payroll_records.specs.declared.table.TableFault.{TableFault}
 use Rattle.plain_words.specs.Lines.{IsOneLine}
 use Rattle.plain_words.specs.Places.{NamedText}
@@ -8,10 +8,20 @@ use Rattle.plan_answers.specs.Answers.{Answer as Written, refusal}
 use Rattle.script_steps.specs.LineTexts.{table_detail}
 use Rattle.pap_plan.specs.declared.refusal.PlanRefusal.{PlanRefusal}
 use Rattle.pap_plan.specs.declared.refusal.PlanRefusal.TheVariants as refusals
-use Rattle.pap_plan.specs.Acceptance.{IsRefused, IsRefusedOrMemory}
-use Rattle.table_coverage.specs.TableCoverages.{CoverFiles, IsCovered, IsTableRefused, HasManyRuns}
+use Rattle.pap_plan.specs.Acceptance.{Meaning, IsAccepted, IsRefused, IsRefusedOrMemory}
+use Rattle.pap_plan.proofs.Laws.{one}
+use Rattle.table_coverage.specs.TableCoverages.{CoverFiles, RunsFound, found_share, found_part, found_marks, IsCovered, IsTableRefused, HasManyRuns}
+use Rattle.flowchart_methods.specs.Marks.{Marked}
+use Rattle.flowchart_page.specs.declared.verdict.Verdict.{Verdict}
+use Rattle.flowchart_page.specs.declared.verdict.Verdict.TheVariants as verdicts
+use Rattle.flowchart_page.specs.Findings.{IsFound}
+use Rattle.flowchart_page.specs.Judged.{finding_of, words_of as verdict_words}
+use Rattle.flowchart_page.specs.Pages.{IsRunPage}
+use Rattle.flowchart_page.specs.Runs.{RunParts}
+use Rattle.author_cli.specs.Words.{Medium}
 use Rattle.author_cli.specs.Traced.{IsRefusedAs}
-use Rattle.author_cli.specs.Covered.{share_words, cover_files, IsCoverTold, IsUnreadTable, IsLongTable, IsUncovered, IsCoveredText}
+use Rattle.author_cli.specs.Covered.{share_words, cover_files, IsCoverTold, IsUnreadTable, IsLongTable, IsUncovered, shown_coverage, WritesFound, IsCoverAnswer}
+use Rattle.author_cli.specs.private.CoveredViews.{IsSomeMeaning}
 
 -- a refusal is one, and memory hasn't run out
 pub or_memory : (plan limits : List ℕ) (r : PlanRefusal) → IsRefused plan limits r → IsRefusedOrMemory plan limits r
@@ -27,9 +37,11 @@ or_memory plan limits (refusals.Range fault) h = h
 or_memory plan limits refusals.Memory h = tt
 
 module _ (plan limits : NamedText) (table text : List ℕ) (reason : Option (List ℕ)) where
-  pub told : (least : Option ℕ) (share : ℕ) → IsCovered (cover_files plan limits table) text share → reason ≡ share_words share least
-      → IsCoveredText least plan limits table text reason
-  told least share h said = inl (record { share = share; covered = h; said = said })
+  pub told : (medium : Medium) (least : Option ℕ) (found : RunsFound) (share : ℕ) → IsCovered (cover_files plan limits table) found
+      → WritesFound medium plan.bytes limits.bytes found text → share ≡ found_share found → reason ≡ share_words share least
+      → IsCoverAnswer medium least plan limits table text reason
+  told medium least found share h written counted said =
+      inl (record { found = found; covered = h; written = written; said = said ∙ ap (λ n. share_words n least) counted })
 
   pub plan_told : (r : PlanRefusal) → IsRefusedAs r plan limits text reason → IsUncovered plan limits table text reason
   plan_told r h = inl (r, h)
@@ -51,3 +63,29 @@ unread_table fault detail bytes written text reason words h same is text_is said
   said = said;
   line = line;
 }
+
+-- what is accepted isn't refused
+pub not_refused : (plan limits : List ℕ) (m : Meaning) (r : PlanRefusal) → IsAccepted plan limits m → IsRefused plan limits r → ⊥
+not_refused plan limits m r a h =
+    let same : ◌≡◌ {A = Result Meaning PlanRefusal} (Ok m) (Err r) = one plan limits (Ok m) (Err r) a h in cc
+
+-- the verdict on what is accepted has no words
+silent : (plan limits : List ℕ) (m : Meaning) (v : Verdict) → IsAccepted plan limits m → IsFound plan (Some limits) (finding_of v)
+    → verdict_words v ≡ None
+silent plan limits m (verdicts.Accepted p) a h = refl
+silent plan limits m verdicts.InOrder a h = absurd h
+silent plan limits m (verdicts.Refused reason) a h = absurd (not_refused plan limits m reason.refusal a h)
+
+-- a part of a page, and the marks of statements
+abbrev parts_of : List ℕ → List (List Marked) → RunParts
+parts_of part marks = record { part = part; marks = marks; internals = [] }
+
+pub draws_found : (plan limits : List ℕ) (found : RunsFound) (v : Verdict) (part : List ℕ) (marks shown : List (List Marked))
+    (words : Option (List ℕ)) (page : List ℕ) → IsSomeMeaning plan limits → IsFound plan (Some limits) (finding_of v)
+    → part ≡ found_part found → marks ≡ found_marks found → shown ≡ marks → words ≡ verdict_words v
+    → IsRunPage (Some (parts_of part shown)) plan (Some limits) words page
+    → IsRunPage (Some (shown_coverage found)) plan (Some limits) None page
+draws_found plan limits found v part marks shown words page accepted h is are all said drawn =
+    subst (λ w. IsRunPage (Some (shown_coverage found)) plan (Some limits) w page) (said ∙ silent plan limits accepted.0 v accepted.1 h)
+    (subst (λ ms. IsRunPage (Some (parts_of (found_part found) ms)) plan (Some limits) words page) (all ∙ are)
+    (subst (λ p. IsRunPage (Some (parts_of p shown)) plan (Some limits) words page) is drawn))

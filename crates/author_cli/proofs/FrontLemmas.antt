@@ -144,9 +144,9 @@ module _ (n m : ℕ) (more_plan : 1048576 < n) (more_limits : 262144 < m) where
   -- what is read of the range file says what its part says
   module _ (plan : List ℕ) (part file : Option (List ℕ)) (says : (l : Option Limits) → AreLimits part l → AreLimits file l)
       (finding : Finding) (site : Site) where
-    table_front : (tree : ElementTree) (texts : List (List ℕ)) → IsElements (take n plan) tree
-        → IsPlanTable (take n plan) part finding site tree texts → IsPlanTable plan file finding site tree texts
-    table_front tree texts e h = record {
+    table_front : (run : Option RunParts) (tree : ElementTree) (texts : List (List ℕ)) → IsElements (take n plan) tree
+        → IsPlanTable run (take n plan) part finding site tree texts → IsPlanTable run plan file finding site tree texts
+    table_front run tree texts e h = record {
       notes = h.notes;
       noted = subst (λ b. HasNotes b h.notes) (whole 1048576 n plan more_plan e.short) h.noted;
       limits = h.limits;
@@ -159,7 +159,7 @@ module _ (n m : ℕ) (more_plan : 1048576 < n) (more_limits : 262144 < m) where
     tree_front run tree texts e h = record {
       names = h.names;
       table = h.table;
-      is_table = table_front tree h.table e h.is_table;
+      is_table = table_front run tree h.table e h.is_table;
       captions = h.captions;
       are_captions = h.are_captions;
       is = h.is;

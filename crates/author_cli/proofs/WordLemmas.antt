@@ -9,7 +9,7 @@ use Rattle.std.proofs.Math.Seq.{drop-cons}
 use Rattle.payroll_records.specs.ValueWords.{AreValueWords}
 use Rattle.payroll_records.specs.declared.values.NamedValue.{NamedValue}
 use Rattle.payroll_records.proofs.Laws.{values_once}
-use Rattle.author_cli.specs.Words.{texts, Medium, as_text, as_page, NamedPlans, two_plans, with_limits, plan_names, behind_compare, Form, chart, chart_within, ranges, compared, traced, drawn, example, linted, covered, least_words, HasForm, IsBad}
+use Rattle.author_cli.specs.Words.{texts, Medium, as_text, as_page, NamedPlans, two_plans, with_limits, plan_names, behind_compare, behind_cover, Form, chart, chart_within, ranges, compared, traced, drawn, example, linted, covered, least_words, HasForm, IsBad}
 use Rattle.author_cli.specs.private.WordViews.{text_words}
 
 two_three : (a b c d e : List ℕ) → a ∷ b ∷ [] ≡ c ∷ d ∷ e ∷ [] → ⊥
@@ -158,6 +158,77 @@ compare_long as_text (with_limits o l n k) = omega arith
 compare_long as_page (two_plans o n) = omega arith
 compare_long as_page (with_limits o l n k) = omega arith
 
+-- ---- the words for what runs cover
+
+chart_cover : codes "chart" ≡ codes "cover" → ⊥
+chart_cover e = let c : 104 ≡ 111 = ap (λ w. get_or w 1 0) e in omega (arith, c)
+
+ranges_cover : codes "ranges" ≡ codes "cover" → ⊥
+ranges_cover e = cc
+
+example_cover : codes "example" ≡ codes "cover" → ⊥
+example_cover e = let c : 101 ≡ 99 = ap (λ w. get_or w 0 0) e in omega (arith, c)
+
+lint_cover : codes "lint" ≡ codes "cover" → ⊥
+lint_cover e = cc
+
+trace_cover : codes "trace" ≡ codes "cover" → ⊥
+trace_cover e = cover_trace (sym e)
+
+text_cover : codes "text" ≡ codes "cover" → ⊥
+text_cover e = cc
+
+compare_text : codes "compare" ≡ codes "text" → ⊥
+compare_text e = text_compare (sym e)
+
+-- words for what runs cover begin with `text` or `cover`
+no_cover_first : (words rest names : List (List ℕ)) (a : List ℕ) (m : Medium) → words ≡ a ∷ rest → words ≡ behind_cover m names
+    → (a ≡ codes "text" → ⊥) → (a ≡ codes "cover" → ⊥) → ⊥
+no_cover_first words rest names a as_text h k no_text no_page = no_text (first words a _ rest (codes "cover" ∷ names) h k)
+no_cover_first words rest names a as_page h k no_text no_page = no_page (first words a _ rest names h k)
+
+-- such words that begin with `text` go on with `cover`
+no_cover_second : (words rest names : List (List ℕ)) (a : List ℕ) (m : Medium) → words ≡ codes "text" ∷ a ∷ rest
+    → words ≡ behind_cover m names → (a ≡ codes "cover" → ⊥) → ⊥
+no_cover_second words rest names a as_text h k no_text = no_text (second words _ a _ _ rest names h k)
+no_cover_second words rest names a as_page h k no_text = text_cover (first words _ _ (a ∷ rest) names h k)
+
+-- words for a comparison aren't such words
+compare_or_cover : (words xs ys : List (List ℕ)) (m n : Medium) → words ≡ behind_compare m xs → words ≡ behind_cover n ys → ⊥
+compare_or_cover words xs ys as_text n h k = no_cover_second words xs ys _ n h k compare_cover
+compare_or_cover words xs ys as_page n h k = no_cover_first words xs ys _ n h k compare_text compare_cover
+
+same_covers : (m n : Medium) (xs ys : List (List ℕ)) → behind_cover m xs ≡ behind_cover n ys → (m ≡ n) × (xs ≡ ys)
+same_covers as_text as_text xs ys e = (refl, ap (λ w. drop 2 w) e)
+same_covers as_text as_page xs ys e = absurd (text_cover (ap (λ w. get_or w 0 []) e))
+same_covers as_page as_text xs ys e = absurd (text_cover (ap (λ w. get_or w 0 []) (sym e)))
+same_covers as_page as_page xs ys e = (refl, ap (λ w. drop 1 w) e)
+
+same_covered : (m u : Medium) (p l t q k v : List ℕ) (n o : Option ℕ) → ForSome n (λ x. x ≤ 100) → ForSome o (λ x. x ≤ 100)
+    → behind_cover m (p ∷ l ∷ t ∷ least_words n) ≡ behind_cover u (q ∷ k ∷ v ∷ least_words o)
+    → covered m p l t n ≡ covered u q k v o
+same_covered m u p l t q k v n o few few' e =
+    let same = same_covers m u (p ∷ l ∷ t ∷ least_words n) (q ∷ k ∷ v ∷ least_words o) e in
+    ap (λ x. covered x p l t n) same.0
+    ∙ ap (λ w. covered u (get_or w 0 []) (get_or w 1 []) (get_or w 2 []) n) same.1
+    ∙ ap (λ x. covered u q k v x) (one_least n o few few' (ap (λ w. drop 3 w) same.1))
+
+-- how many words there are
+cover_long : (m : Medium) (p l t : List ℕ) (rest : List (List ℕ)) → 4 ≤ length (behind_cover m (p ∷ l ∷ t ∷ rest))
+cover_long as_text p l t rest = omega arith
+cover_long as_page p l t rest = omega arith
+
+two_cover : (a b : List ℕ) (m : Medium) (p l t : List ℕ) (rest : List (List ℕ)) → a ∷ b ∷ [] ≡ behind_cover m (p ∷ l ∷ t ∷ rest) → ⊥
+two_cover a b m p l t rest h =
+    let n : 2 ≡ length (behind_cover m (p ∷ l ∷ t ∷ rest)) = ap (λ w. length w) h in
+    omega (arith, n, cover_long m p l t rest)
+
+three_cover : (a b c : List ℕ) (m : Medium) (p l t : List ℕ) (rest : List (List ℕ))
+    → a ∷ b ∷ c ∷ [] ≡ behind_cover m (p ∷ l ∷ t ∷ rest) → ⊥
+three_cover a b c m p l t rest h =
+    let n : 3 ≡ length (behind_cover m (p ∷ l ∷ t ∷ rest)) = ap (λ w. length w) h in
+    omega (arith, n, cover_long m p l t rest)
+
 two_compare : (a b : List ℕ) (m : Medium) (c : NamedPlans) → a ∷ b ∷ [] ≡ behind_compare m (plan_names c) → ⊥
 two_compare a b m c h =
     let l : 2 ≡ length (behind_compare m (plan_names c)) = ap (λ w. length w) h in
@@ -270,38 +341,40 @@ one_form words (example q l) (linted p m) h k =
     absurd (example_lint (first words _ _ (q ∷ l ∷ []) (p ∷ m ∷ []) h k))
 one_form words (linted p m) (example q l) h k =
     absurd (example_lint (first words _ _ (q ∷ l ∷ []) (p ∷ m ∷ []) k h))
-one_form words (chart p) (covered q l t n) h k = absurd (two_more _ p _ _ q l (t ∷ least_words n) (sym h ∙ k.words_are))
-one_form words (chart_within p m) (covered q l t n) h k =
-    absurd (three_more _ p m _ _ q l (t ∷ least_words n) (sym h ∙ k.words_are))
-one_form words (ranges p) (covered q l t n) h k = absurd (two_more _ p _ _ q l (t ∷ least_words n) (sym h ∙ k.words_are))
-one_form words (compared m c) (covered q l t n) h k =
-    absurd (no_compare_second words (q ∷ l ∷ t ∷ least_words n) (plan_names c) _ m k.words_are h cover_compare)
-one_form words (traced p m vs) (covered q l t n) h k =
-    absurd (cover_trace (second words _ (codes "cover") _ (codes "trace") (q ∷ l ∷ t ∷ least_words n) (p ∷ m ∷ h.rest) k.words_are h.words_are))
-one_form words (drawn p m vs) (covered q l t n) h k =
-    absurd (text_trace (first words _ _ (codes "cover" ∷ q ∷ l ∷ t ∷ least_words n) (p ∷ m ∷ h.rest) k.words_are h.words_are))
-one_form words (example p m) (covered q l t n) h k =
-    absurd (three_more _ p m _ _ q l (t ∷ least_words n) (sym h ∙ k.words_are))
-one_form words (linted p m) (covered q l t n) h k =
-    absurd (three_more _ p m _ _ q l (t ∷ least_words n) (sym h ∙ k.words_are))
-one_form words (covered q l t n) (chart p) h k = absurd (two_more _ p _ _ q l (t ∷ least_words n) (sym k ∙ h.words_are))
-one_form words (covered q l t n) (chart_within p m) h k =
-    absurd (three_more _ p m _ _ q l (t ∷ least_words n) (sym k ∙ h.words_are))
-one_form words (covered q l t n) (ranges p) h k = absurd (two_more _ p _ _ q l (t ∷ least_words n) (sym k ∙ h.words_are))
-one_form words (covered q l t n) (compared m c) h k =
-    absurd (no_compare_second words (q ∷ l ∷ t ∷ least_words n) (plan_names c) _ m h.words_are k cover_compare)
-one_form words (covered q l t n) (traced p m vs) h k =
-    absurd (cover_trace (second words _ (codes "cover") _ (codes "trace") (q ∷ l ∷ t ∷ least_words n) (p ∷ m ∷ k.rest) h.words_are k.words_are))
-one_form words (covered q l t n) (drawn p m vs) h k =
-    absurd (text_trace (first words _ _ (codes "cover" ∷ q ∷ l ∷ t ∷ least_words n) (p ∷ m ∷ k.rest) h.words_are k.words_are))
-one_form words (covered q l t n) (example p m) h k =
-    absurd (three_more _ p m _ _ q l (t ∷ least_words n) (sym k ∙ h.words_are))
-one_form words (covered q l t n) (linted p m) h k =
-    absurd (three_more _ p m _ _ q l (t ∷ least_words n) (sym k ∙ h.words_are))
-one_form words (covered p l t n) (covered q m u o) h k =
-    let same = sym h.words_are ∙ k.words_are in
-    ap (λ w. covered (get_or w 2 []) (get_or w 3 []) (get_or w 4 []) n) same
-    ∙ ap (λ x. covered q m u x) (one_least n o h.percent k.percent (ap (λ w. drop 5 w) same))
+one_form words (chart p) (covered m q l t n) h k =
+    absurd (no_cover_first words (p ∷ []) (q ∷ l ∷ t ∷ least_words n) _ m h k.words_are chart_text chart_cover)
+one_form words (chart_within p u) (covered m q l t n) h k =
+    absurd (no_cover_first words (p ∷ u ∷ []) (q ∷ l ∷ t ∷ least_words n) _ m h k.words_are chart_text chart_cover)
+one_form words (ranges p) (covered m q l t n) h k =
+    absurd (no_cover_first words (p ∷ []) (q ∷ l ∷ t ∷ least_words n) _ m h k.words_are ranges_text ranges_cover)
+one_form words (compared u c) (covered m q l t n) h k =
+    absurd (compare_or_cover words (plan_names c) (q ∷ l ∷ t ∷ least_words n) u m h k.words_are)
+one_form words (traced p u vs) (covered m q l t n) h k =
+    absurd (no_cover_second words (p ∷ u ∷ h.rest) (q ∷ l ∷ t ∷ least_words n) _ m h.words_are k.words_are trace_cover)
+one_form words (drawn p u vs) (covered m q l t n) h k =
+    absurd (no_cover_first words (p ∷ u ∷ h.rest) (q ∷ l ∷ t ∷ least_words n) _ m h.words_are k.words_are trace_text trace_cover)
+one_form words (example p u) (covered m q l t n) h k =
+    absurd (no_cover_first words (p ∷ u ∷ []) (q ∷ l ∷ t ∷ least_words n) _ m h k.words_are example_text example_cover)
+one_form words (linted p u) (covered m q l t n) h k =
+    absurd (no_cover_first words (p ∷ u ∷ []) (q ∷ l ∷ t ∷ least_words n) _ m h k.words_are lint_text lint_cover)
+one_form words (covered m q l t n) (chart p) h k =
+    absurd (no_cover_first words (p ∷ []) (q ∷ l ∷ t ∷ least_words n) _ m k h.words_are chart_text chart_cover)
+one_form words (covered m q l t n) (chart_within p u) h k =
+    absurd (no_cover_first words (p ∷ u ∷ []) (q ∷ l ∷ t ∷ least_words n) _ m k h.words_are chart_text chart_cover)
+one_form words (covered m q l t n) (ranges p) h k =
+    absurd (no_cover_first words (p ∷ []) (q ∷ l ∷ t ∷ least_words n) _ m k h.words_are ranges_text ranges_cover)
+one_form words (covered m q l t n) (compared u c) h k =
+    absurd (compare_or_cover words (plan_names c) (q ∷ l ∷ t ∷ least_words n) u m k h.words_are)
+one_form words (covered m q l t n) (traced p u vs) h k =
+    absurd (no_cover_second words (p ∷ u ∷ k.rest) (q ∷ l ∷ t ∷ least_words n) _ m k.words_are h.words_are trace_cover)
+one_form words (covered m q l t n) (drawn p u vs) h k =
+    absurd (no_cover_first words (p ∷ u ∷ k.rest) (q ∷ l ∷ t ∷ least_words n) _ m k.words_are h.words_are trace_text trace_cover)
+one_form words (covered m q l t n) (example p u) h k =
+    absurd (no_cover_first words (p ∷ u ∷ []) (q ∷ l ∷ t ∷ least_words n) _ m k h.words_are example_text example_cover)
+one_form words (covered m q l t n) (linted p u) h k =
+    absurd (no_cover_first words (p ∷ u ∷ []) (q ∷ l ∷ t ∷ least_words n) _ m k h.words_are lint_text lint_cover)
+one_form words (covered m p l t n) (covered u q k v o) h g =
+    same_covered m u p l t q k v n o h.percent g.percent (sym h.words_are ∙ g.words_are)
 
 -- ---- no form
 
@@ -316,7 +389,7 @@ no_two command plan no_chart no_ranges (traced p l vs) h = two_more _ plan _ _ p
 no_two command plan no_chart no_ranges (drawn p l vs) h = two_rest _ plan _ p l h.rest h.words_are
 no_two command plan no_chart no_ranges (example p l) h = two_three _ plan _ p l h
 no_two command plan no_chart no_ranges (linted p l) h = two_three _ plan _ p l h
-no_two command plan no_chart no_ranges (covered p l t n) h = two_more _ plan _ _ p l (t ∷ least_words n) h.words_are
+no_two command plan no_chart no_ranges (covered m p l t n) h = two_cover _ plan m p l t (least_words n) h.words_are
 
 three_compare : (a b d : List ℕ) (m : Medium) (c : NamedPlans) → ¬ (a ≡ codes "compare")
     → a ∷ b ∷ d ∷ [] ≡ behind_compare m (plan_names c) → ⊥
@@ -336,31 +409,33 @@ no_three command plan limits no_chart no_trace no_example no_lint no_compare (tr
 no_three command plan limits no_chart no_trace no_example no_lint no_compare (drawn p l vs) h = no_trace (ap (λ w. get_or w 0 []) h.words_are)
 no_three command plan limits no_chart no_trace no_example no_lint no_compare (example p l) h = no_example (ap (λ w. get_or w 0 []) h)
 no_three command plan limits no_chart no_trace no_example no_lint no_compare (linted p l) h = no_lint (ap (λ w. get_or w 0 []) h)
-no_three command plan limits no_chart no_trace no_example no_lint no_compare (covered p l t n) h =
-    three_more _ plan limits _ _ p l (t ∷ least_words n) h.words_are
+no_three command plan limits no_chart no_trace no_example no_lint no_compare (covered m p l t n) h =
+    three_cover _ plan limits m p l t (least_words n) h.words_are
 
 -- a form, a command, two names and some words
 pub no_more : (form command first second : List ℕ) (rest : List (List ℕ))
     → (form ≡ codes "text" → ¬ (command ≡ codes "compare")) → (form ≡ codes "text" → ¬ (command ≡ codes "trace"))
     → (form ≡ codes "text" → ¬ (command ≡ codes "cover")) → ¬ (form ≡ codes "trace") → ¬ (form ≡ codes "compare")
-    → IsBad (form ∷ command ∷ first ∷ second ∷ rest)
-no_more form command first second rest no_compare no_trace no_cover no_drawn no_page (chart p) h = two_more _ p _ _ first second rest (sym h)
-no_more form command first second rest no_compare no_trace no_cover no_drawn no_page (chart_within p l) h =
+    → ¬ (form ≡ codes "cover") → IsBad (form ∷ command ∷ first ∷ second ∷ rest)
+no_more form command first second rest no_compare no_trace no_cover no_drawn no_page no_covered_page (chart p) h = two_more _ p _ _ first second rest (sym h)
+no_more form command first second rest no_compare no_trace no_cover no_drawn no_page no_covered_page (chart_within p l) h =
     three_more _ p l _ _ first second rest (sym h)
-no_more form command first second rest no_compare no_trace no_cover no_drawn no_page (ranges p) h = two_more _ p _ _ first second rest (sym h)
-no_more form command first second rest no_compare no_trace no_cover no_drawn no_page (compared as_text c) h =
+no_more form command first second rest no_compare no_trace no_cover no_drawn no_page no_covered_page (ranges p) h = two_more _ p _ _ first second rest (sym h)
+no_more form command first second rest no_compare no_trace no_cover no_drawn no_page no_covered_page (compared as_text c) h =
     no_compare (ap (λ w. get_or w 0 []) h) (ap (λ w. get_or w 1 []) h)
-no_more form command first second rest no_compare no_trace no_cover no_drawn no_page (compared as_page c) h =
+no_more form command first second rest no_compare no_trace no_cover no_drawn no_page no_covered_page (compared as_page c) h =
     no_page (ap (λ w. get_or w 0 []) h)
-no_more form command first second rest no_compare no_trace no_cover no_drawn no_page (traced p l vs) h =
+no_more form command first second rest no_compare no_trace no_cover no_drawn no_page no_covered_page (traced p l vs) h =
     no_trace (ap (λ w. get_or w 0 []) h.words_are) (ap (λ w. get_or w 1 []) h.words_are)
-no_more form command first second rest no_compare no_trace no_cover no_drawn no_page (drawn p l vs) h =
+no_more form command first second rest no_compare no_trace no_cover no_drawn no_page no_covered_page (drawn p l vs) h =
     no_drawn (ap (λ w. get_or w 0 []) h.words_are)
-no_more form command first second rest no_compare no_trace no_cover no_drawn no_page (example p l) h =
+no_more form command first second rest no_compare no_trace no_cover no_drawn no_page no_covered_page (example p l) h =
     three_more _ p l _ _ first second rest (sym h)
-no_more form command first second rest no_compare no_trace no_cover no_drawn no_page (linted p l) h =
+no_more form command first second rest no_compare no_trace no_cover no_drawn no_page no_covered_page (linted p l) h =
     three_more _ p l _ _ first second rest (sym h)
-no_more form command first second rest no_compare no_trace no_cover no_drawn no_page (covered p l t n) h =
+no_more form command first second rest no_compare no_trace no_cover no_drawn no_page no_covered_page (covered as_page p l t n) h =
+    no_covered_page (ap (λ w. get_or w 0 []) h.words_are)
+no_more form command first second rest no_compare no_trace no_cover no_drawn no_page no_covered_page (covered as_text p l t n) h =
     no_cover (ap (λ w. get_or w 0 []) h.words_are) (ap (λ w. get_or w 1 []) h.words_are)
 
 -- the words for a comparison and names that aren't those of two or four files
@@ -374,8 +449,7 @@ no_compared m names none (traced p l vs) h = no_compare_second _ (p ∷ l ∷ h.
 no_compared m names none (drawn p l vs) h = no_compare_first _ (p ∷ l ∷ h.rest) names _ m h.words_are refl trace_text trace_compare
 no_compared m names none (example p l) h = no_compare_first _ (p ∷ l ∷ []) names _ m h refl example_text example_compare
 no_compared m names none (linted p l) h = no_compare_first _ (p ∷ l ∷ []) names _ m h refl lint_text lint_compare
-no_compared m names none (covered p l t n) h =
-    no_compare_second _ (p ∷ l ∷ t ∷ least_words n) names _ m h.words_are refl cover_compare
+no_compared m names none (covered k p l t n) h = compare_or_cover _ names (p ∷ l ∷ t ∷ least_words n) m k refl h.words_are
 
 -- `text trace` and words that give no values
 pub no_traced : (plan limits : List ℕ) (rest : List (List ℕ)) → ((values : List NamedValue) → ¬ (AreValueWords rest values))
@@ -390,7 +464,8 @@ no_traced plan limits rest none (traced p l vs) h =
 no_traced plan limits rest none (drawn p l vs) h = text_trace (ap (λ w. get_or w 0 []) h.words_are)
 no_traced plan limits rest none (example p l) h = three_more _ p l _ _ plan limits rest (sym h)
 no_traced plan limits rest none (linted p l) h = three_more _ p l _ _ plan limits rest (sym h)
-no_traced plan limits rest none (covered p l t n) h = cover_trace (sym (ap (λ w. get_or w 1 []) h.words_are))
+no_traced plan limits rest none (covered m p l t n) h =
+    no_cover_second _ (plan ∷ limits ∷ rest) (p ∷ l ∷ t ∷ least_words n) _ m refl h.words_are trace_cover
 
 -- `trace` and words that give no values
 pub no_drawn : (plan limits : List ℕ) (rest : List (List ℕ)) → ((values : List NamedValue) → ¬ (AreValueWords rest values))
@@ -405,22 +480,31 @@ no_drawn plan limits rest none (drawn p l vs) h =
     none vs (subst (λ r. AreValueWords r vs) (sym (ap (λ w. drop 3 w) h.words_are)) h.values_are)
 no_drawn plan limits rest none (example p l) h = example_trace (sym (ap (λ w. get_or w 0 []) h))
 no_drawn plan limits rest none (linted p l) h = lint_trace (sym (ap (λ w. get_or w 0 []) h))
-no_drawn plan limits rest none (covered p l t n) h = text_trace (sym (ap (λ w. get_or w 0 []) h.words_are))
+no_drawn plan limits rest none (covered m p l t n) h =
+    no_cover_first _ (plan ∷ limits ∷ rest) (p ∷ l ∷ t ∷ least_words n) _ m refl h.words_are trace_text trace_cover
 
--- `text cover` and words that don't name a table, and a share where one is asked for
-pub no_covered : (plan limits : List ℕ) (rest : List (List ℕ))
+-- the words for what runs cover, two names, and words that don't name a table, and a share where one is asked for
+pub no_covered : (m : Medium) (plan limits : List ℕ) (rest : List (List ℕ))
     → ((table : List ℕ) (least : Option ℕ) → ForSome least (λ n. n ≤ 100) → ¬ (rest ≡ table ∷ least_words least))
-    → IsBad (text_words (codes "cover") plan limits rest)
-no_covered plan limits rest none (chart p) h = two_more _ p _ _ plan limits rest (sym h)
-no_covered plan limits rest none (chart_within p l) h = three_more _ p l _ _ plan limits rest (sym h)
-no_covered plan limits rest none (ranges p) h = two_more _ p _ _ plan limits rest (sym h)
-no_covered plan limits rest none (compared m c) h =
-    no_compare_second _ (plan ∷ limits ∷ rest) (plan_names c) _ m refl h cover_compare
-no_covered plan limits rest none (traced p l vs) h = cover_trace (ap (λ w. get_or w 1 []) h.words_are)
-no_covered plan limits rest none (drawn p l vs) h = text_trace (ap (λ w. get_or w 0 []) h.words_are)
-no_covered plan limits rest none (example p l) h = three_more _ p l _ _ plan limits rest (sym h)
-no_covered plan limits rest none (linted p l) h = three_more _ p l _ _ plan limits rest (sym h)
-no_covered plan limits rest none (covered p l t n) h = none t n h.percent (ap (λ w. drop 4 w) h.words_are)
+    → IsBad (behind_cover m (plan ∷ limits ∷ rest))
+no_covered m plan limits rest none (chart p) h =
+    no_cover_first _ (p ∷ []) (plan ∷ limits ∷ rest) _ m h refl chart_text chart_cover
+no_covered m plan limits rest none (chart_within p l) h =
+    no_cover_first _ (p ∷ l ∷ []) (plan ∷ limits ∷ rest) _ m h refl chart_text chart_cover
+no_covered m plan limits rest none (ranges p) h =
+    no_cover_first _ (p ∷ []) (plan ∷ limits ∷ rest) _ m h refl ranges_text ranges_cover
+no_covered m plan limits rest none (compared k c) h = compare_or_cover _ (plan_names c) (plan ∷ limits ∷ rest) k m h refl
+no_covered m plan limits rest none (traced p l vs) h =
+    no_cover_second _ (p ∷ l ∷ h.rest) (plan ∷ limits ∷ rest) _ m h.words_are refl trace_cover
+no_covered m plan limits rest none (drawn p l vs) h =
+    no_cover_first _ (p ∷ l ∷ h.rest) (plan ∷ limits ∷ rest) _ m h.words_are refl trace_text trace_cover
+no_covered m plan limits rest none (example p l) h =
+    no_cover_first _ (p ∷ l ∷ []) (plan ∷ limits ∷ rest) _ m h refl example_text example_cover
+no_covered m plan limits rest none (linted p l) h =
+    no_cover_first _ (p ∷ l ∷ []) (plan ∷ limits ∷ rest) _ m h refl lint_text lint_cover
+no_covered m plan limits rest none (covered k p l t n) h =
+    none t n h.percent
+    (ap (λ w. drop 2 w) (same_covers m k (plan ∷ limits ∷ rest) (p ∷ l ∷ t ∷ least_words n) h.words_are).1)
 
 as_many : (words : List (String Global)) (list : List (List ℕ)) → texts words ≡ list → length words ≡ length list
 as_many words list e = sym (length-map words (λ w. string_bytes w)) ∙ ap (λ w. length w) e
@@ -442,7 +526,8 @@ no_other words two few (traced p l vs) h = let l = as_many words _ h.words_are i
 no_other words two few (drawn p l vs) h = let l = as_many words _ h.words_are in omega (arith, l, few)
 no_other words two few (example p l) h = let l = as_many words _ h in omega (arith, l, few)
 no_other words two few (linted p l) h = let l = as_many words _ h in omega (arith, l, few)
-no_other words two few (covered p l t n) h = let l = as_many words _ h.words_are in omega (arith, l, few)
+no_other words two few (covered m p l t n) h =
+    let count = as_many words _ h.words_are in omega (arith, count, few, cover_long m p l t (least_words n))
 
 -- ---- all words
 

@@ -18,6 +18,7 @@ use Rattle.limits_file.specs.declared.limits.Limits.{Limits}
 use Rattle.pap_plan.specs.declared.refusal.PlanRefusal.{PlanRefusal}
 use Rattle.pap_plan.specs.Acceptance.{Meaning, IsAccepted, IsRefused}
 use Rattle.range_marks.specs.RangeMarks.{WalkFindings, AreFindings, range_marks}
+use Rattle.range_marks.specs.InternalRanges.{AreInternalRanges}
 use Rattle.flowchart_page.specs.Pages.{IsPage, IsRunPage}
 use Rattle.flowchart_page.specs.Runs.{all_runs}
 use Rattle.flowchart_page.specs.Verdicts.{files_with, IsJudged}
@@ -27,7 +28,7 @@ use Rattle.author_cli.specs.Traced.{IsTraced}
 use Rattle.author_cli.specs.Drawn.{IsDrawn}
 use Rattle.author_cli.specs.Examples.{IsExample}
 use Rattle.author_cli.specs.Linted.{IsLinted}
-use Rattle.author_cli.specs.Covered.{IsCoveredText}
+use Rattle.author_cli.specs.Covered.{IsCoverAnswer}
 
 -- what is written, and in words why a plan is refused, that two differ, that a run fails, or how many findings there are, where that is so
 pub record Answer : Type 0 where
@@ -41,11 +42,15 @@ pub record IsChart (plan : NamedText) (limits : Option NamedText) (answer : Answ
   pub page : IsPage plan.bytes (option_map (λ file. file.bytes) limits) answer.reason answer.text
   pub judged : IsJudged plan limits answer.reason
 
--- the page of an accepted plan of this flowchart and these limits: its drawings have the marks of what the walk over its ranges finds
+-- the page of an accepted plan of this flowchart and these limits: its drawings have the marks of what the walk over its ranges finds,
+-- and its table the ranges that the internals then have over the whole run
 pub record ShowsRanges (plan limits : NamedText) (f : Flowchart) (l : Limits) (answer : Answer) : Type 0 where
   pub findings : WalkFindings
   pub are_findings : AreFindings f l findings
-  pub page : IsRunPage (Some (all_runs (range_marks f findings))) plan.bytes (Some limits.bytes) answer.reason answer.text
+  pub internals : List (List ℕ)
+  pub are_internals : AreInternalRanges f findings internals
+  pub page :
+      IsRunPage (Some (all_runs (range_marks f findings) internals)) plan.bytes (Some limits.bytes) answer.reason answer.text
   pub judged : IsJudged plan (Some limits) answer.reason
 
 -- the plan is accepted, and its page shows what the walk over its ranges finds
@@ -172,14 +177,14 @@ pub record LintsFiles (plan limits : List ℕ) (files : FileMap) (answer : Answe
   pub is : IsLinted (file_of plan plan_bytes) (file_of limits limits_bytes) answer.text answer.reason
 
 -- the three files are there, and this is the answer on the runs of the last through the plan of the others
-pub record CoversFiles (least : Option ℕ) (plan limits table : List ℕ) (files : FileMap) (answer : Answer) : Type 0 where
+pub record CoversFiles (medium : Medium) (least : Option ℕ) (plan limits table : List ℕ) (files : FileMap) (answer : Answer) : Type 0 where
   pub plan_bytes : List ℕ
   pub limits_bytes : List ℕ
   pub table_bytes : List ℕ
   pub plan_there : files plan ≡ Some plan_bytes
   pub limits_there : files limits ≡ Some limits_bytes
   pub table_there : files table ≡ Some table_bytes
-  pub is : IsCoveredText least (file_of plan plan_bytes) (file_of limits limits_bytes) table_bytes answer.text answer.reason
+  pub is : IsCoverAnswer medium least (file_of plan plan_bytes) (file_of limits limits_bytes) table_bytes answer.text answer.reason
 
 -- the answer to words of this form
 abbrev pub Answers : Form → FileMap → Answer → Type 0
@@ -191,4 +196,4 @@ Answers (traced plan limits values) files answer = TracesFiles values plan limit
 Answers (drawn plan limits values) files answer = DrawsFiles values plan limits files answer
 Answers (example plan limits) files answer = SearchesFiles plan limits files answer
 Answers (linted plan limits) files answer = LintsFiles plan limits files answer
-Answers (covered plan limits table least) files answer = CoversFiles least plan limits table files answer
+Answers (covered medium plan limits table least) files answer = CoversFiles medium least plan limits table files answer

@@ -38,7 +38,7 @@ Lacks (traced plan limits values) told failed = IsMissing told plan limits faile
 Lacks (drawn plan limits values) told failed = IsMissing told plan limits failed
 Lacks (example plan limits) told failed = IsMissing told plan limits failed
 Lacks (linted plan limits) told failed = IsMissing told plan limits failed
-Lacks (covered plan limits table least) told failed = IsMissingOfThree told plan limits table failed
+Lacks (covered medium plan limits table least) told failed = IsMissingOfThree told plan limits table failed
 
 -- ---- what each end leaves; of the text where the files tell what they hold, of the rest always
 

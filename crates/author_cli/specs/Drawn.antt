@@ -21,11 +21,11 @@ use Rattle.author_cli.specs.Traced.{accepted_texts, filled_alone, state_detail}
 
 -- what a page shows of a run: the part of it that tells of the run, and in the drawings the marks of its statements
 abbrev pub shown_run : RunPieces → RunParts
-shown_run run = record { part = run.part; marks = run.marks }
+shown_run run = record { part = run.part; marks = run.marks; internals = [] }
 
 -- what a page shows of a run that there is none of, by this part of it: no marks in the drawings
 abbrev pub shown_part : List ℕ → RunParts
-shown_part part = record { part = part; marks = [] }
+shown_part part = record { part = part; marks = []; internals = [] }
 
 -- the plan is accepted, and its page shows the run on these values, with the lines of the plan's file
 pub record IsDrawnRun (values : List NamedValue) (plan limits text : List ℕ) (reason : Option (List ℕ)) : Type 0 where

@@ -42,8 +42,8 @@ pub data Form : Type 0 where
   example : List ℕ → List ℕ → Form
   -- lint PLAN LIMITS
   linted : List ℕ → List ℕ → Form
-  -- text cover PLAN LIMITS TABLE, or with --at-least N
-  covered : List ℕ → List ℕ → List ℕ → Option ℕ → Form
+  -- cover PLAN LIMITS TABLE, or with --at-least N, or either behind the word `text`
+  covered : Medium → List ℕ → List ℕ → List ℕ → Option ℕ → Form
 
 -- the words are `text trace`, the names of two files, and value words that give these values
 pub record HasTraceForm (words : List (List ℕ)) (plan limits : List ℕ) (values : List NamedValue) : Type 0 where
@@ -62,9 +62,14 @@ abbrev pub least_words : Option ℕ → List (List ℕ)
 least_words None = []
 least_words (Some least) = codes "--at-least" ∷ number least ∷ []
 
--- the words are `text cover`, the names of three files, and the least share, where one is asked for
-pub record HasCoverForm (words : List (List ℕ)) (plan limits table : List ℕ) (least : Option ℕ) : Type 0 where
-  pub words_are : words ≡ codes "text" ∷ codes "cover" ∷ plan ∷ limits ∷ table ∷ least_words least
+-- names behind the words for what runs cover
+abbrev pub behind_cover : Medium → List (List ℕ) → List (List ℕ)
+behind_cover as_text names = codes "text" ∷ codes "cover" ∷ names
+behind_cover as_page names = codes "cover" ∷ names
+
+-- the words are those for what runs cover, the names of three files, and the least share, where one is asked for
+pub record HasCoverForm (words : List (List ℕ)) (medium : Medium) (plan limits table : List ℕ) (least : Option ℕ) : Type 0 where
+  pub words_are : words ≡ behind_cover medium (plan ∷ limits ∷ table ∷ least_words least)
   pub percent : ForSome least (λ n. n ≤ 100)
 
 -- the names of the files that are compared
@@ -87,7 +92,7 @@ HasForm words (traced plan limits values) = HasTraceForm words plan limits value
 HasForm words (drawn plan limits values) = HasDrawnForm words plan limits values
 HasForm words (example plan limits) = words ≡ codes "example" ∷ plan ∷ limits ∷ []
 HasForm words (linted plan limits) = words ≡ codes "lint" ∷ plan ∷ limits ∷ []
-HasForm words (covered plan limits table least) = HasCoverForm words plan limits table least
+HasForm words (covered medium plan limits table least) = HasCoverForm words medium plan limits table least
 
 -- the words have no form
 abbrev pub IsBad : List (List ℕ) → Type 0

@@ -89,11 +89,12 @@ fn make_answer<F: Files>(
         Request::Example { plan, limits } => answer_example(alloc, plan, limits, files),
         Request::Lint { plan, limits } => answer_linted(alloc, plan, limits, files),
         Request::Cover {
+            medium,
             plan,
             limits,
             table,
             least,
-        } => answer_covered(alloc, plan, limits, table, least, files),
+        } => answer_covered(alloc, medium, plan, limits, table, least, files),
     }
 }
 
@@ -340,13 +341,14 @@ fn answer_linted<F: Files>(
 /// To what the runs of a table come.
 fn answer_covered<F: Files>(
     alloc: Global,
+    medium: Medium,
     plan: &str,
     limits: &str,
     table: &str,
     least: Option<u8>,
     files: &mut F,
 ) -> Result<Answer, FileAnswer>
-    ensures made { Makes (covered plan.now limits.now table.now least)
+    ensures made { Makes (covered (medium_of medium) plan.now limits.now table.now least)
         (F.told files.old) (F.failed files.old) (F.failed files.new) result }
     ensures same { F.told files.new ≡ F.told files.old }
     ensures cause { Caused FileAnswer.Failed (F.faults files.old) (F.faults files.new) result }
@@ -364,7 +366,7 @@ fn answer_covered<F: Files>(
         name: table,
         bytes: &read.table,
     };
-    Ok(cover_plan(alloc, plan, limits, table, least)?)
+    Ok(cover_plan(alloc, medium, plan, limits, table, least)?)
 }
 
 /// The range file that begins with a plan's inputs, or the line of its refusal where the bytes aren't read as a plan.

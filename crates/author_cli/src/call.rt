@@ -22,8 +22,9 @@ use std::alloc::Global;
 /// found, `lint PLAN LIMITS`, which writes a line for each thing that the flowchart has in vain, `compare OLD NEW`, which writes
 /// a page of what the flowchart of the file NEW changed against that of OLD, `compare OLD OLD_LIMITS NEW NEW_LIMITS`, which compares
 /// their range files too, `text compare ..`, which writes either as a text, `text trace PLAN LIMITS NAME=VALUE ..`, which writes
-/// each statement that a run on these inputs executes, and `text cover PLAN LIMITS TABLE`, with `--at-least N` behind it or
-/// without, which writes the statements and exits that no run of the table comes to. All other words are [`Stop::Words`]. `Ok`
+/// each statement that a run on these inputs executes, `cover PLAN LIMITS TABLE`, with `--at-least N` behind it or without, which
+/// writes the page with how many runs of the table come to each statement and take each exit, and `text cover ..`, which writes as
+/// a text what none comes to. All other words are [`Stop::Words`]. `Ok`
 /// means that all was written: it has in plain words, in one line, why a plan or a table is refused or a run has no inputs, that
 /// two flowcharts differ, that a run fails or that this stays open, that runs come to less than the share asked for, and nothing
 /// where none of these is so.

@@ -14,7 +14,7 @@ use flowchart_page::{Chart, draw_chart, draw_ranged};
 use interval_analysis::{Survey, survey};
 use pap_plan::{BoundPlan, PlanRefusal, read_bound};
 use plain_words::TextFile;
-use range_marks::range_marks;
+use range_marks::{internal_ranges, range_marks};
 use std::alloc::{AllocError, Global};
 
 /// The page of a plan's bytes and a range file's: of an accepted plan with what is known of all runs within its ranges.
@@ -63,7 +63,8 @@ fn chart_ranges(
         (flowchart_of bound.now.typed) bound.now.limits (answer_of answer)) }
 {
     let marks = range_marks(alloc, bound.typed.plan(), survey)?;
-    let Chart { page, reason } = draw_ranged(alloc, plan, limits, &marks)?;
+    let internals = internal_ranges(alloc, &bound.typed, survey)?;
+    let Chart { page, reason } = draw_ranged(alloc, plan, limits, &marks, &internals)?;
     Ok(Answer { text: page, reason })
 }
 

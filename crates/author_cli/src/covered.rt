@@ -1,5 +1,5 @@
 //! To which statements and exits of a plan the runs of a table come.
-ghost use Rattle.std.specs.Prelude.{◌≡◌, IfOk, IsErrOf, OnOk, string_bytes};
+ghost use Rattle.std.specs.Prelude.{◌≡◌, Some, None, IfOk, IsErrOf, OnOk, string_bytes};
 ghost use Rattle.std.specs.Option.{ForSome};
 ghost use Rattle.outside.specs.Causes.{Caused};
 ghost use Rattle.plain_words.specs.Places.{named_text};
@@ -7,18 +7,22 @@ ghost use Rattle.table_coverage.specs.TableCoverages.{IsCoverRefused};
 ghost use Rattle.script_steps.specs.LineTexts.{table_detail};
 ghost use Rattle.author_cli.specs.Ends.{words_of};
 ghost use Rattle.author_cli.specs.CallClauses.{IsMissingOfThree};
-ghost use Rattle.author_cli.specs.private.CoveredViews.{AreThreeFronts};
-ghost use Rattle.author_cli.specs.Covered.{IsCoveredText, IsUncovered, cover_files, IsUnreadTable, IsLongTable};
+ghost use Rattle.author_cli.specs.private.CoveredViews.{AreThreeFronts, IsSomeMeaning};
+ghost use Rattle.author_cli.specs.private.WordViews.{medium_of};
+ghost use Rattle.flowchart_page.specs.Pages.{IsRunPage};
+ghost use Rattle.author_cli.specs.Covered.{IsCoverAnswer, IsUncovered, cover_files, IsUnreadTable, IsLongTable, WritesFound, shown_coverage};
 ghost use Rattle.author_cli.specs.Covered.{share_words, low_share_words};
 
 use crate::answer::Answer;
 use crate::traced::answer_refused;
+use crate::words::Medium;
+use flowchart_page::{Marking, RunShown, draw_judged, judge};
 use outside::{FileAnswer, Files};
 use payroll_records::{LONGEST_TABLE, MOST_RECORDS, TableFault};
 use plain_words::{TextFile, table_words};
 use plan_answers::{read_both, refusal};
 use std::alloc::{AllocError, Global};
-use table_coverage::{CoverRefusal, cover_table};
+use table_coverage::{CoverRefusal, TableCoverage, cover_table};
 
 /// What is read of three files.
 #[derive(Drop)]
@@ -58,25 +62,67 @@ pub(crate) fn read_three<F: Files>(
 /// What is told of the runs of a table through a plan, or why nothing is.
 pub(crate) fn cover_plan(
     alloc: Global,
+    medium: Medium,
     plan: TextFile<'_>,
     limits: TextFile<'_>,
     table: TextFile<'_>,
     least: Option<u8>,
 ) -> Result<Answer, AllocError>
-    ensures { IfOk result (λ answer. IsCoveredText least (named_text plan.entry)
+    ensures { IfOk result (λ answer. IsCoverAnswer (medium_of medium) least (named_text plan.entry)
         (named_text limits.entry) (named_text table.entry).bytes
         answer.text.items (words_of answer.reason)) }
 {
     match cover_table(alloc, plan.bytes, limits.bytes, table.bytes) {
-        Ok(coverage) => {
-            let reason = share_words(alloc, coverage.share, least)?;
-            Ok(Answer {
-                text: coverage.text,
-                reason,
-            })
+        Ok(found) => {
+            let text = write_found(alloc, medium, plan, limits, &found)?;
+            let share = found.share()?;
+            let reason = share_words(alloc, share, least)?;
+            Ok(Answer { text, reason })
         }
         Err(why) => answer_uncovered(alloc, plan, limits, table, why),
     }
+}
+
+/// What is found of the runs of a table, as a text or as the page of their plan.
+fn write_found(
+    alloc: Global,
+    medium: Medium,
+    plan: TextFile<'_>,
+    limits: TextFile<'_>,
+    found: &TableCoverage,
+) -> Result<Vec<u8>, AllocError>
+    requires { IsSomeMeaning plan.bytes.now limits.bytes.now }
+    ensures { IfOk result (λ text. WritesFound (medium_of medium) plan.entry.bytes.now
+        limits.entry.bytes.now found.now text.items) }
+{
+    match medium {
+        Medium::Text => found.text(alloc),
+        Medium::Page => draw_found(alloc, plan, limits, found),
+    }
+}
+
+/// The page of an accepted plan with what is found of the runs of a table.
+fn draw_found(
+    alloc: Global,
+    plan: TextFile<'_>,
+    limits: TextFile<'_>,
+    found: &TableCoverage,
+) -> Result<Vec<u8>, AllocError>
+    requires { IsSomeMeaning plan.bytes.now limits.bytes.now }
+    ensures { IfOk result (λ page. IsRunPage (Some (shown_coverage found.now))
+        plan.entry.bytes.now (Some limits.entry.bytes.now) None page.items) }
+{
+    let verdict = judge(alloc, plan, Some(limits))?;
+    let part = found.part(alloc)?;
+    let marks = found.marks(alloc)?;
+    let shown = RunShown {
+        part: &part,
+        marks: &marks,
+        marking: Marking::Counts,
+        internals: &[],
+    };
+    let page = draw_judged(alloc, plan, Some(limits), &verdict, Some(shown))?;
+    Ok(page)
 }
 
 /// Why nothing is told of the runs of a table.

@@ -1,25 +1,27 @@
-//! The words of `text cover`.
+//! The words for what runs cover.
 ghost use Rattle.std.specs.Prelude.{◌≡◌, ◌∷◌, [], ℕ, codes, IfOk, MatchOption};
-ghost use Rattle.author_cli.specs.Words.{texts, HasForm, IsBad};
+ghost use Rattle.author_cli.specs.Words.{texts, behind_cover, HasForm, IsBad};
 ghost use Rattle.author_cli.specs.private.CoveredViews.{IsPercentWord, IsPercent};
-ghost use Rattle.author_cli.specs.private.WordViews.{form_of, text_words};
+ghost use Rattle.author_cli.specs.private.WordViews.{medium_of, form_of};
 
-use crate::words::Request;
+use crate::words::{Medium, Request};
 use std::alloc::{AllocError, Global};
 
-/// What `text cover`, two names and some words ask for.
+/// What the words for what runs cover, two names and some words ask for.
 pub(crate) fn read_covered<'a>(
     alloc: Global,
+    medium: Medium,
     plan: &'a str,
     limits: &'a str,
     rest: &'a [String],
 ) -> Result<Option<Request<'a>>, AllocError>
-    ensures { let words = text_words (codes "cover") plan.now limits.now (texts rest.now) in
+    ensures { let words = behind_cover (medium_of medium) (plan.now ∷ limits.now ∷ texts rest.now) in
         IfOk result (λ found. MatchOption found (IsBad words)
         (λ request. HasForm words (form_of request))) }
 {
     match rest {
         [table] => Ok(Some(Request::Cover {
+            medium,
             plan,
             limits,
             table: table.as_str(),
@@ -27,6 +29,7 @@ pub(crate) fn read_covered<'a>(
         })),
         [table, option, share] => read_bounded(
             alloc,
+            medium,
             plan,
             limits,
             table.as_str(),
@@ -37,41 +40,44 @@ pub(crate) fn read_covered<'a>(
     }
 }
 
-/// What `text cover`, three names and two more words ask for.
+/// What the words for what runs cover, three names and two more words ask for.
 fn read_bounded<'a>(
     alloc: Global,
+    medium: Medium,
     plan: &'a str,
     limits: &'a str,
     table: &'a str,
     option: &str,
     share: &str,
 ) -> Result<Option<Request<'a>>, AllocError>
-    ensures { let words = text_words (codes "cover") plan.now limits.now
-        (table.now ∷ option.now ∷ share.now ∷ []) in
+    ensures { let words = behind_cover (medium_of medium)
+        (plan.now ∷ limits.now ∷ table.now ∷ option.now ∷ share.now ∷ []) in
         IfOk result (λ found. MatchOption found (IsBad words)
         (λ request. HasForm words (form_of request))) }
 {
     match option {
-        "--at-least" => read_least(alloc, plan, limits, table, share),
+        "--at-least" => read_least(alloc, medium, plan, limits, table, share),
         _ => Ok(None),
     }
 }
 
-/// What `text cover`, three names, `--at-least` and one more word ask for.
+/// What the words for what runs cover, three names, `--at-least` and one more word ask for.
 fn read_least<'a>(
     alloc: Global,
+    medium: Medium,
     plan: &'a str,
     limits: &'a str,
     table: &'a str,
     share: &str,
 ) -> Result<Option<Request<'a>>, AllocError>
-    ensures { let words = text_words (codes "cover") plan.now limits.now
-        (table.now ∷ codes "--at-least" ∷ share.now ∷ []) in
+    ensures { let words = behind_cover (medium_of medium)
+        (plan.now ∷ limits.now ∷ table.now ∷ codes "--at-least" ∷ share.now ∷ []) in
         IfOk result (λ found. MatchOption found (IsBad words)
         (λ request. HasForm words (form_of request))) }
 {
     match read_percent(alloc, share)? {
         Some(least) => Ok(Some(Request::Cover {
+            medium,
             plan,
             limits,
             table,

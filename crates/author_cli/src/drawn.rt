@@ -18,7 +18,7 @@ use crate::answer::Answer;
 use crate::given::{fill_given, given_words};
 use crate::traced::{record_of, state_detail};
 use carry_bindings::{Blocked, Filled};
-use flowchart_page::{Reason, RunShown, Verdict, draw_judged, judge};
+use flowchart_page::{Marking, Reason, RunShown, Verdict, draw_judged, judge};
 use pap_plan::Plan;
 use payroll_records::Values;
 use plain_words::TextFile;
@@ -120,6 +120,8 @@ fn draw_run(
     let shown = RunShown {
         part: &run.part,
         marks: &run.marks,
+        marking: Marking::Run,
+        internals: &[],
     };
     let page = draw_judged(alloc, plan, Some(limits), judged.verdict, Some(shown))?;
     Ok(Answer {
@@ -153,6 +155,8 @@ fn draw_blocked(
     let run = RunShown {
         part: &part,
         marks: &[],
+        marking: Marking::Nothing,
+        internals: &[],
     };
     let page = draw_judged(alloc, plan, Some(limits), judged.verdict, Some(run))?;
     Ok(Answer {

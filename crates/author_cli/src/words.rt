@@ -78,8 +78,9 @@ pub(crate) enum Request<'a> {
         plan: &'a str,
         limits: &'a str,
     },
-    /// `text cover PLAN LIMITS TABLE`, and the N of `--at-least N` where that stands behind it.
+    /// `cover PLAN LIMITS TABLE`, and the N of `--at-least N` where that stands behind it, or either behind the word `text`.
     Cover {
+        medium: Medium,
         plan: &'a str,
         limits: &'a str,
         table: &'a str,
@@ -132,11 +133,12 @@ fn read_files<'a>(
     match command {
         "trace" => read_drawn(alloc, first, second, rest),
         "compare" => Ok(read_compared(Medium::Page, first, second, rest)),
+        "cover" => read_covered(alloc, Medium::Page, first, second, rest),
         _ => read_others(alloc, command, first, second, rest),
     }
 }
 
-/// What three words and some more ask for, where the first is neither `trace` nor `compare`.
+/// What three words and some more ask for, where the first is neither `trace` nor `compare` nor `cover`.
 fn read_others<'a>(
     alloc: Global,
     command: &str,
@@ -146,6 +148,7 @@ fn read_others<'a>(
 ) -> Result<Option<Request<'a>>, AllocError>
     requires no_trace { ¬ (command.now ≡ codes "trace") }
     requires no_compare { ¬ (command.now ≡ codes "compare") }
+    requires no_cover { ¬ (command.now ≡ codes "cover") }
     ensures { let words = command.now ∷ first.now ∷ second.now ∷ texts rest.now in
         IfOk result (λ found. MatchOption found (IsBad words)
         (λ request. HasForm words (form_of request))) }
@@ -203,6 +206,7 @@ fn read_more<'a>(
 ) -> Result<Option<Request<'a>>, AllocError>
     requires no_trace { ¬ (form.now ≡ codes "trace") }
     requires no_compare { ¬ (form.now ≡ codes "compare") }
+    requires no_cover { ¬ (form.now ≡ codes "cover") }
     ensures { let words = form.now ∷ command.now ∷ first.now ∷ second.now ∷ texts rest.now in
         IfOk result (λ found. MatchOption found (IsBad words)
         (λ request. HasForm words (form_of request))) }
@@ -210,7 +214,7 @@ fn read_more<'a>(
     match (form, command) {
         ("text", "compare") => Ok(read_compared(Medium::Text, first, second, rest)),
         ("text", "trace") => read_trace(alloc, first, second, rest),
-        ("text", "cover") => read_covered(alloc, first, second, rest),
+        ("text", "cover") => read_covered(alloc, Medium::Text, first, second, rest),
         _ => Ok(None),
     }
 }

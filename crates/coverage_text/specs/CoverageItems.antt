@@ -1,16 +1,19 @@
 -- What runs can come to in a flowchart, and to how much of it they came. Source: statement coverage and branch coverage, as ISO/IEC/IEEE
 -- 29119-4 has them. A coverage item is a statement, or an exit of a test.
-use Rattle.std.specs.Prelude.{ℕ, ◌+◌, ◌*◌, ◌/◌, ◌==◌, nat_lt, Bool, not, ◌&&◌, if◌then◌else◌, List, count_by}
+use Rattle.std.specs.Prelude.{ℕ, ◌+◌, ◌*◌, ◌/◌, ◌==◌, nat_lt, Bool, not, ◌&&◌, if◌then◌else◌, Option, List, count_by}
 use Rattle.std.specs.List.{fold}
 use Rattle.coverage_text.specs.declared.counts.CoverageCounts.{CoverageCounts}
+use Rattle.coverage_text.specs.declared.item.ExitRuns.{ExitRuns}
 
--- a coverage item: its place and its text, whether it is an exit of a test, whether a run within the ranges may come there, and how
--- many runs came there
+-- a coverage item: the number of its statement in the method, its place and its text, whether it is an exit of a test, whether a run
+-- within the ranges may come there, how many runs came there, and how many took its exits, where it is a test to which a run may come
 pub record CoverageItem : Type 0 where
+  pub statement : ℕ
   pub words : List ℕ
   pub is_exit : Bool
   pub is_reachable : Bool
   pub runs : ℕ
+  pub exits : Option ExitRuns
 
 -- a method with its coverage items
 pub record CoveredMethod : Type 0 where
@@ -30,6 +33,10 @@ is_exit i = i.is_reachable && i.is_exit
 -- some run came there
 abbrev pub is_covered : CoverageItem → Bool
 is_covered i = nat_lt 0 i.runs
+
+-- a run may come there, and none came
+abbrev pub is_never_reached : CoverageItem → Bool
+is_never_reached i = i.is_reachable && i.runs == 0
 
 -- no run within the ranges may come there
 abbrev pub is_unreachable : CoverageItem → Bool

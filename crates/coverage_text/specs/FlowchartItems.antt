@@ -1,5 +1,5 @@
 -- The coverage items of a flowchart, each with how many runs came there.
-use Rattle.std.specs.Prelude.{ℕ, ◌+◌, Bool, true, false, if◌then◌else◌, List, [], ◌∷◌, ◌++◌, codes, Option}
+use Rattle.std.specs.Prelude.{ℕ, ◌+◌, Bool, true, false, if◌then◌else◌, List, [], ◌∷◌, ◌++◌, codes, Option, Some, None}
 use Rattle.std.specs.BTreeSet.{BTreeSet, contains}
 use Rattle.std.specs.Fmt.{decimal as number}
 use Rattle.pap_tree.specs.Names.{main_name}
@@ -12,6 +12,7 @@ use Rattle.statement_list.specs.declared.statement.Form.TheVariants.{Set, Test, 
 use Rattle.source_lines.specs.Lines.{FileLines, line_at}
 use Rattle.run_trace.specs.StepLines.{line_words, answer_words}
 use Rattle.run_coverage.specs.declared.runs.StatementRuns.{StatementRuns}
+use Rattle.coverage_text.specs.declared.item.ExitRuns.{ExitRuns}
 use Rattle.coverage_text.specs.declared.sites.Known.{Known}
 use Rattle.coverage_text.specs.CoverageItems.{CoverageItem, CoveredMethod}
 
@@ -60,29 +61,46 @@ statement_words at s behind = site_words at ++ (form_words s.form ++ (s.text ++ 
 
 -- ---- items
 
--- the item of a statement
-abbrev pub statement_item : StatementSite → Listed → ℕ → CoverageItem
-statement_item at s runs =
-    record { words = statement_words at s []; is_exit = false; is_reachable = at.is_reachable; runs = runs }
+-- how many of a statement's runs took its exits: only a test has some, and none where no run may come there
+abbrev pub exit_runs : Form → StatementSite → StatementRuns → Option ExitRuns
+exit_runs (Set x) at r = None
+exit_runs Test at r = if at.is_reachable then Some (record { yes = r.yes; no = r.no }) else None
+exit_runs (Enter m) at r = None
+
+-- the item of a statement, to which so many runs came, and of whose exits so many took each
+abbrev pub statement_item : StatementSite → Listed → ℕ → Option ExitRuns → CoverageItem
+statement_item at s runs exits = record {
+  statement = at.statement;
+  words = statement_words at s [];
+  is_exit = false;
+  is_reachable = at.is_reachable;
+  runs = runs;
+  exits = exits;
+}
 
 -- the item of an exit of a test
 abbrev pub exit_item : StatementSite → Listed → Bool → ℕ → CoverageItem
-exit_item at s holds runs =
-    record { words = statement_words at s (answer_words holds); is_exit = true; is_reachable = true; runs = runs }
+exit_item at s holds runs = record {
+  statement = at.statement;
+  words = statement_words at s (answer_words holds);
+  is_exit = true;
+  is_reachable = true;
+  runs = runs;
+  exits = None;
+}
 
--- the items of a test's exits, yes and no; none where no run may come there
-abbrev pub test_exits : StatementSite → Listed → StatementRuns → List CoverageItem
-test_exits at s r = if at.is_reachable then exit_item at s true r.yes ∷ exit_item at s false r.no ∷ [] else []
+-- the items of the exits of a test, yes and no
+abbrev pub exit_items : StatementSite → Listed → Option ExitRuns → List CoverageItem
+exit_items at s (Some exits) = exit_item at s true exits.yes ∷ exit_item at s false exits.no ∷ []
+exit_items at s None = []
 
--- the items of a statement's exits: only a test has some
-abbrev pub exit_items : Form → StatementSite → Listed → StatementRuns → List CoverageItem
-exit_items (Set x) at s r = []
-exit_items Test at s r = test_exits at s r
-exit_items (Enter m) at s r = []
+-- the items of a statement of whose exits so many runs took each: itself, and its exits
+abbrev pub counted_site : StatementSite → Listed → ℕ → Option ExitRuns → List CoverageItem
+counted_site at s runs exits = statement_item at s runs exits ∷ exit_items at s exits
 
 -- the items of a statement: itself, and its exits
 abbrev pub site_items : StatementSite → Listed → StatementRuns → List CoverageItem
-site_items at s r = statement_item at s r.runs ∷ exit_items s.form at s r
+site_items at s r = counted_site at s r.runs (exit_runs s.form at r)
 
 -- the items of a method's statements, which are numbered from n on
 abbrev pub body_items : (ℕ → StatementSite) → ℕ → List Listed → List StatementRuns → List CoverageItem

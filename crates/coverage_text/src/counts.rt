@@ -1,6 +1,6 @@
 //! How many statements and exits there are, and to how many of them runs came.
 ghost use Rattle.std.specs.Prelude.{◌≡◌, ◌+◌, ◌*◌, ◌^◌, ◌≤◌, IfOk};
-ghost use Rattle.coverage_text.specs.private.Shares.{AreWithin};
+ghost use Rattle.coverage_text.specs.Shares.{IsCountedWithin};
 ghost use Rattle.coverage_text.specs.CoverageItems.{item_counts, method_counts, no_counts, counts_sum, percent_of, share_reached};
 
 use crate::item::{Item, MethodItems};
@@ -36,9 +36,9 @@ impl CoverageCounts {
     }
 
     /// Those of some items.
-    pub(crate) fn of(items: &[Item]) -> CoverageCounts
+    pub fn of(items: &[Item]) -> CoverageCounts
         ensures counts { result ≡ item_counts items.now }
-        ensures within { AreWithin result }
+        ensures within { IsCountedWithin result }
     {
         CoverageCounts {
             covered_statements: covered_statements(items),
@@ -51,10 +51,10 @@ impl CoverageCounts {
 
     /// The sums of both.
     pub(crate) fn with(self, other: CoverageCounts) -> Result<CoverageCounts, AllocError>
-        requires first { AreWithin self }
-        requires second { AreWithin other }
+        requires first { IsCountedWithin self }
+        requires second { IsCountedWithin other }
         ensures counts { IfOk result (λ c. c ≡ counts_sum self other) }
-        ensures within { IfOk result AreWithin }
+        ensures within { IfOk result IsCountedWithin }
     {
         Ok(CoverageCounts {
             covered_statements: sum(self.covered_statements, other.covered_statements)?,
@@ -109,9 +109,9 @@ fn sum(a: usize, b: usize) -> Result<usize, AllocError>
 }
 
 /// The counts of all methods.
-pub(crate) fn count_methods(methods: &[MethodItems]) -> Result<CoverageCounts, AllocError>
+pub fn count_methods(methods: &[MethodItems]) -> Result<CoverageCounts, AllocError>
     ensures counts { IfOk result (λ c. c ≡ method_counts methods.now) }
-    ensures within { IfOk result AreWithin }
+    ensures within { IfOk result IsCountedWithin }
 {
     let mut counts = CoverageCounts::none();
     for method in methods {
@@ -129,9 +129,9 @@ pub fn share_reached(methods: &[MethodItems]) -> Result<u8, AllocError>
     Ok(share_of(counts))
 }
 
-/// That share of some counts.
-pub(crate) fn share_of(counts: CoverageCounts) -> u8
-    requires { AreWithin counts }
+/// That share of some counts, of which no more are covered than there are.
+pub fn share_of(counts: CoverageCounts) -> u8
+    requires { IsCountedWithin counts }
     ensures { result ≡ share_reached counts }
 {
     let part = counts.covered_statements as u128 + counts.covered_exits as u128;

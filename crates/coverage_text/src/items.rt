@@ -2,11 +2,11 @@
 ghost use Rattle.std.specs.Prelude.{◌≡◌, ◌++◌, IfOk, OnOk, option_map, slice_get, string_bytes};
 ghost use Rattle.pap_tree.specs.Flowchart.{flowchart_of};
 ghost use Rattle.run_trace.specs.StepLines.{answer_words};
-ghost use Rattle.coverage_text.specs.FlowchartItems.{known_in, form_words, statement_words, statement_item, exit_item, test_exits, site_items};
+ghost use Rattle.coverage_text.specs.FlowchartItems.{known_in, form_words, statement_words, exit_runs, statement_item, exit_item, exit_items, counted_site, site_items};
 ghost use Rattle.coverage_text.specs.FlowchartItems.{body_items, covered_methods, all_names, flowchart_items};
 ghost use Rattle.coverage_text.specs.private.SiteViews.{known_of, site_of, sites_of, counted_items, counted_method};
 
-use crate::item::{Item, MethodItems};
+use crate::item::{ExitRuns, Item, MethodItems};
 use crate::sites::{Known, MethodSites, Site};
 use pap_tree::{Name, PlanText};
 use run_coverage::{MethodRuns, StatementRuns};
@@ -164,27 +164,53 @@ fn add_items(
     ensures { OnOk result (items.new.items
         ≡ items.old.items ++ site_items (site_of site.now) statement.now runs.now) }
 {
-    items.push(statement_item(alloc, site, statement, runs.runs)?)?;
-    match statement.form() {
-        Form::Test => add_exits(alloc, items, site, statement, runs),
-        Form::Set(_) | Form::Enter(_) => Ok(()),
+    let exits = exit_runs(statement.form(), site, runs);
+    add_site(alloc, items, site, statement, runs.runs, exits)
+}
+
+/// Appends the items of a statement to which so many runs came, and of whose exits so many took each.
+fn add_site(
+    alloc: Global,
+    items: &mut Vec<Item>,
+    site: &Site,
+    statement: &ListedStatement,
+    runs: u64,
+    exits: Option<ExitRuns>,
+) -> Result<(), AllocError>
+    ensures { OnOk result (items.new.items
+        ≡ items.old.items ++ counted_site (site_of site.now) statement.now runs exits) }
+{
+    items.push(statement_item(alloc, site, statement, runs, exits)?)?;
+    add_exits(alloc, items, site, statement, exits)
+}
+
+/// How many of a statement's runs took its exits, where it is a test to which a run may come.
+fn exit_runs(form: Form, site: &Site, runs: &StatementRuns) -> Option<ExitRuns>
+    ensures { result ≡ exit_runs form (site_of site.now) runs.now }
+{
+    match form {
+        Form::Test if site.is_reachable => Some(ExitRuns {
+            yes: runs.yes,
+            no: runs.no,
+        }),
+        Form::Test | Form::Set(_) | Form::Enter(_) => None,
     }
 }
 
-/// Appends the items of a test's exits, where a run may come there.
+/// Appends the items of a test's exits.
 fn add_exits(
     alloc: Global,
     items: &mut Vec<Item>,
     site: &Site,
     test: &ListedStatement,
-    runs: &StatementRuns,
+    exits: Option<ExitRuns>,
 ) -> Result<(), AllocError>
     ensures { OnOk result (items.new.items ≡ items.old.items
-        ++ test_exits (site_of site.now) test.now runs.now) }
+        ++ exit_items (site_of site.now) test.now exits) }
 {
-    if site.is_reachable {
-        items.push(exit_item(alloc, site, test, true, runs.yes)?)?;
-        items.push(exit_item(alloc, site, test, false, runs.no)?)?;
+    if let Some(exits) = exits {
+        items.push(exit_item(alloc, site, test, true, exits.yes)?)?;
+        items.push(exit_item(alloc, site, test, false, exits.no)?)?;
     }
     Ok(())
 }
@@ -195,14 +221,17 @@ fn statement_item(
     site: &Site,
     statement: &ListedStatement,
     runs: u64,
+    exits: Option<ExitRuns>,
 ) -> Result<Item, AllocError>
-    ensures { IfOk result (λ item. item ≡ statement_item (site_of site.now) statement.now runs) }
+    ensures { IfOk result (λ item. item ≡ statement_item (site_of site.now) statement.now runs exits) }
 {
     Ok(Item {
+        statement: site.statement,
         words: statement_words(alloc, site, statement, b"")?,
         is_exit: false,
         is_reachable: site.is_reachable,
         runs,
+        exits,
     })
 }
 
@@ -217,10 +246,12 @@ fn exit_item(
     ensures { IfOk result (λ item. item ≡ exit_item (site_of site.now) test.now yes runs) }
 {
     Ok(Item {
+        statement: site.statement,
         words: statement_words(alloc, site, test, answer_words(yes))?,
         is_exit: true,
         is_reachable: true,
         runs,
+        exits: None,
     })
 }
 

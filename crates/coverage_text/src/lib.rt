@@ -7,8 +7,8 @@ mod items;
 mod sites;
 mod text;
 
-pub use counts::{CoverageCounts, share_reached};
-pub use item::MethodItems;
+pub use counts::{CoverageCounts, count_methods, share_of, share_reached};
+pub use item::{ExitRuns, Item, MethodItems};
 pub use items::flowchart_items;
 pub use sites::Known;
 pub use text::coverage_text;

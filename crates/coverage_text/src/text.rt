@@ -1,7 +1,7 @@
 //! The text.
 ghost use Rattle.std.specs.Prelude.{◌≡◌, ◌++◌, IfOk, OnOk, string_bytes};
 ghost use Rattle.std.specs.List.{flat_map};
-ghost use Rattle.coverage_text.specs.private.Shares.{AreWithin};
+ghost use Rattle.coverage_text.specs.Shares.{IsCountedWithin};
 ghost use Rattle.coverage_text.specs.CoverageTexts.{count_words, share_lines, total_lines, open_runs_line, method_line, missed_line, missed_lines, coverage_text};
 
 use crate::counts::{CoverageCounts, count_methods, share_of};
@@ -29,7 +29,7 @@ pub fn coverage_text(
 
 /// Appends the totals.
 fn write_totals(alloc: Global, out: &mut Vec<u8>, counts: CoverageCounts) -> Result<(), AllocError>
-    requires { AreWithin counts }
+    requires { IsCountedWithin counts }
     ensures { OnOk result (out.new.items ≡ out.old.items ++ total_lines counts) }
 {
     let share = share_of(counts);

@@ -115,11 +115,28 @@ run_templates =
     codes "<p class=\"blocked\"><strong>No run.</strong> %.</p>\n<p><code>%</code></p></div></section>\n" ∷
     []
 
+-- of the runs of a table above the drawings: to how much they came, by method, and to what they didn't
+abbrev pub coverage_templates : List (List ℕ)
+coverage_templates =
+    codes "<section id=\"coverage\"><h2>What the runs came to</h2>\n" ∷
+    codes "<p><strong>% percent</strong> of what runs can come to: % of % statements, % of % exits. Unreachable within the ranges: %.</p>\n" ∷
+    codes "<p>Runs without amounts: % of %.</p>\n" ∷
+    codes "<table><caption>By method</caption><thead><tr><th scope=\"col\">Method<th scope=\"col\">Statements<th scope=\"col\">Exits</tr></thead><tbody>\n" ∷
+    codes "<tr><th scope=\"row\"><a href=\"#method-%\">%</a><td class=\"num\">% of %<td class=\"num\">% of %</tr>\n" ∷
+    codes "<h3>Never reached</h3>\n" ∷
+    codes "<h3>Unreachable within the ranges</h3>\n" ∷
+    codes "<p>Nothing.</p>\n" ∷
+    codes "<ol class=\"run\">\n" ∷
+    codes "<li><a href=\"#%:%\"><code>%</code></a></li>\n" ∷
+    codes "</ol>\n" ∷
+    []
+
 -- of a drawing that shows what is known of its statements: the way of a run is marked, or what no run comes to
 abbrev pub marked_templates : List (List ℕ)
 marked_templates =
     codes "</ul><p><a href=\"#declarations\">Declarations</a></p></nav><main class=\"traced\">\n" ∷
     codes "</ul><p><a href=\"#declarations\">Declarations</a></p></nav><main class=\"ranged\">\n" ∷
+    codes "<p class=\"key\">Each statement says how many runs came there, and each way of a test how many took it. What no run came to is red and dashed, and says never or missed. What no run within the ranges of the inputs can come to is grey and dashed, and says unreachable.</p>\n" ∷
     codes "<p class=\"key\">Under each assignment stands the range of what it puts: from the least to the greatest value that a run within the ranges of the inputs can give it. What no such run comes to is grey and dashed, and says so.</p>\n" ∷
     codes "<g id=\"%:%\" role=\"group\" aria-label=\"%:%%: %; %\" class=\"s\">" ∷
     codes "<g id=\"%:%\" role=\"group\" aria-label=\"%:%%: %; %\" class=\"s missed\">" ∷
@@ -130,6 +147,9 @@ marked_templates =
     codes "<path class=\"d dead\" d=\"M% %l% -%h%l% %l-% %h-%z\"/>" ∷
     codes "<text class=\"y missed\" x=\"%\" y=\"%\">% missed</text>" ∷
     codes "<text class=\"e missed\" x=\"%\" y=\"%\">%</text><text class=\"y missed\" x=\"%\" y=\"%\">missed</text>" ∷
+    codes "<text class=\"p v\" x=\"%\" y=\"%\">%</text>" ∷
+    codes "<text class=\"y\" x=\"%\" y=\"%\">% %</text>" ∷
+    codes "<text class=\"e\" x=\"%\" y=\"%\">%</text><text class=\"y\" x=\"%\" y=\"%\">%</text>" ∷
     codes "<text class=\"y dead\" x=\"%\" y=\"%\">% never</text>" ∷
     codes "<text class=\"e dead\" x=\"%\" y=\"%\">%</text><text class=\"y dead\" x=\"%\" y=\"%\">never</text>" ∷
     codes "<g id=\"%:%\" role=\"group\" aria-label=\"%:%%: %; %\" class=\"s ran\">" ∷
@@ -148,7 +168,8 @@ own_templates =
     text_templates
     ++ (method_templates
     ++ (drawing_templates
-    ++ (statement_templates ++ (index_templates ++ (table_templates ++ (run_templates ++ marked_templates))))))
+    ++ (statement_templates ++ (index_templates ++ (table_templates
+    ++ (run_templates ++ (coverage_templates ++ marked_templates)))))))
 
 -- this markup is the page's own
 abbrev pub is_own : List ℕ → Bool

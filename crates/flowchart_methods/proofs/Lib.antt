@@ -3,3 +3,4 @@ pub mod TurnLemmas
 pub mod ChapterLemmas
 pub mod CommentLemmas
 pub mod ConditionLemmas
+pub mod MarkLemmas

@@ -1,8 +1,9 @@
 -- What is known of the statements of a method, as a drawing shows it.
-use Rattle.std.specs.Prelude.{ℕ, ◌==◌, Bool, true, false, Option, Some, None, List, [], ◌∷◌, ◌++◌, length, codes, unwrap_or, option_map, slice_get}
+use Rattle.std.specs.Prelude.{ℕ, ◌==◌, Bool, true, false, if◌then◌else◌, Option, Some, None, List, [], ◌∷◌, ◌++◌, length, codes, unwrap_or, option_map, slice_get}
 use Rattle.std.specs.List.{flat_map}
+use Rattle.std.specs.Fmt.{decimal as number}
 use Rattle.flowchart_methods.specs.declared.kind.MarkKind.{MarkKind}
-use Rattle.flowchart_methods.specs.declared.kind.MarkKind.TheVariants.{Nothing, Run, Told, Missed, Dead}
+use Rattle.flowchart_methods.specs.declared.kind.MarkKind.TheVariants.{Nothing, Run, Told, Came, Missed, Dead}
 use Rattle.flowchart_methods.specs.declared.kind.ExitKind.{ExitKind}
 use Rattle.flowchart_methods.specs.declared.kind.ExitKind.TheVariants as exits
 
@@ -48,12 +49,28 @@ way_words what true false = codes "; way " ++ (what ++ codes ": yes")
 way_words what false true = codes "; way " ++ (what ++ codes ": no")
 way_words what false false = []
 
+-- how many runs took the exit, where they are counted
+abbrev pub runs_counted : ExitKind → Option ℕ
+runs_counted (exits.Counted count) = Some count
+runs_counted _ = None
+
+-- a number of runs
+abbrev pub runs_text : ℕ → List ℕ
+runs_text count = number count ++ (if count == 1 then codes " run" else codes " runs")
+
+-- how many runs took a way behind a test, as it is read aloud
+abbrev pub counted_way : List ℕ → Option ℕ → List ℕ
+counted_way way (Some count) = codes "; " ++ (way ++ (codes ": " ++ runs_text count))
+counted_way way None = []
+
 -- what is known of the ways behind a test, as it is read aloud
 abbrev pub exit_words : ExitKind → ExitKind → List ℕ
 exit_words holds fails =
     way_words (codes "taken") (is_taken holds) (is_taken fails)
+    ++ (counted_way (codes "yes") (runs_counted holds)
+    ++ (counted_way (codes "no") (runs_counted fails)
     ++ (way_words (codes "missed") (is_missed holds) (is_missed fails)
-    ++ way_words (codes "never taken") (is_dead holds) (is_dead fails))
+    ++ way_words (codes "never taken") (is_dead holds) (is_dead fails))))
 
 -- a line of what is told of a statement, as it is read aloud
 abbrev pub spoken_line : List ℕ → List ℕ
@@ -73,6 +90,7 @@ kind_words Nothing tells = None
 kind_words (Run first) tells = Some (codes "executed")
 kind_words Told true = Some (codes "within the ranges")
 kind_words Told false = None
+kind_words Came tells = Some (codes "covered")
 kind_words Missed tells = Some (codes "missed")
 kind_words Dead tells = Some (codes "dead")
 

@@ -1,6 +1,6 @@
 //! Kinds of what is known of a statement and of the exits of a test.
 ghost use Rattle.std.specs.Prelude.{◌≡◌, option_map};
-ghost use Rattle.flowchart_methods.specs.Marks.{is_taken, is_missed, is_dead, kind_words};
+ghost use Rattle.flowchart_methods.specs.Marks.{is_taken, runs_counted, is_missed, is_dead, kind_words};
 
 /// What kind of thing is known of a statement.
 #[derive(Clone, Copy)]
@@ -11,6 +11,8 @@ pub enum MarkKind {
     Run(u64),
     /// Runs may come there, and something may be told of it.
     Told,
+    /// Runs of those that are looked at came there.
+    Came,
     /// No run of those that are looked at came there.
     Missed,
     /// No run within the ranges comes there.
@@ -24,6 +26,8 @@ pub enum ExitKind {
     Open,
     /// A run took it.
     Taken,
+    /// So many runs of those that are looked at took it.
+    Counted(u64),
     /// No run of those that are looked at took it.
     Missed,
     /// No run within the ranges takes it.
@@ -45,6 +49,7 @@ impl MarkKind {
                     None
                 }
             }
+            MarkKind::Came => Some("covered"),
             MarkKind::Missed => Some("missed"),
             MarkKind::Dead => Some("dead"),
         }
@@ -57,6 +62,16 @@ impl ExitKind {
         ensures { result ≡ is_taken self }
     {
         matches!(self, ExitKind::Taken)
+    }
+
+    /// How many runs took it, where they are counted.
+    pub(crate) fn count(self) -> Option<u64>
+        ensures { result ≡ runs_counted self }
+    {
+        match self {
+            ExitKind::Counted(count) => Some(count),
+            ExitKind::Open | ExitKind::Taken | ExitKind::Missed | ExitKind::Dead => None,
+        }
     }
 
     /// Whether no run of those that are looked at took it.

@@ -18,6 +18,6 @@ pub use chapter::{Chapter, read_chapters};
 pub use comments::{write_comments, write_last_paragraph, write_paragraphs};
 pub use conditions::Condition;
 pub use kind::{ExitKind, MarkKind};
-pub use mark::{Mark, MethodMarks};
+pub use mark::{Mark, MethodMarks, runs_text};
 pub use method::write_methods;
 pub use site::Site;

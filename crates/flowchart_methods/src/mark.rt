@@ -1,6 +1,6 @@
 //! What is known of the statements of a flowchart, as its drawings show it.
-ghost use Rattle.std.specs.Prelude.{◌≡◌, ◌++◌, IfOk, OnOk, map, option_map};
-ghost use Rattle.flowchart_methods.specs.Marks.{unmarked, marks_at, way_words, exit_words, spoken_line, spoken_lines, told_words, mark_words, has_some};
+ghost use Rattle.std.specs.Prelude.{◌≡◌, ◌++◌, Some, IfOk, OnOk, map, option_map, string_bytes};
+ghost use Rattle.flowchart_methods.specs.Marks.{unmarked, marks_at, way_words, counted_way, runs_text, exit_words, spoken_line, spoken_lines, told_words, mark_words, has_some};
 
 use crate::kind::{ExitKind, MarkKind};
 use chart_layout::Passage;
@@ -92,16 +92,18 @@ impl Mark {
     pub(crate) fn either_exit(&self) -> ExitKind {
         match self.kind {
             MarkKind::Run(_) => ExitKind::Taken,
-            MarkKind::Nothing | MarkKind::Told | MarkKind::Missed | MarkKind::Dead => {
-                ExitKind::Open
-            }
+            MarkKind::Nothing
+            | MarkKind::Told
+            | MarkKind::Came
+            | MarkKind::Missed
+            | MarkKind::Dead => ExitKind::Open,
         }
     }
 
     /// Whether runs come to the statement.
     pub(crate) fn is_visited(&self) -> bool {
         match self.kind {
-            MarkKind::Run(_) | MarkKind::Told => true,
+            MarkKind::Run(_) | MarkKind::Told | MarkKind::Came => true,
             MarkKind::Nothing | MarkKind::Missed | MarkKind::Dead => false,
         }
     }
@@ -138,7 +140,7 @@ impl Mark {
     {
         let mut words = Vec::new(alloc);
         push_lines(&mut words, &self.lines)?;
-        push_exits(&mut words, self.yes, self.no)?;
+        push_exits(alloc, &mut words, self.yes, self.no)?;
         Ok(words)
     }
 }
@@ -166,8 +168,8 @@ fn led_words(alloc: Global, lead: &str, told: &[u8]) -> Result<Vec<u8>, AllocErr
 /// Whether runs take an exit of a test of which this kind of thing is known.
 fn is_way(kind: MarkKind, exit: ExitKind) -> bool {
     match exit {
-        ExitKind::Taken => true,
-        ExitKind::Open => matches!(kind, MarkKind::Told),
+        ExitKind::Taken | ExitKind::Counted(_) => true,
+        ExitKind::Open => matches!(kind, MarkKind::Told | MarkKind::Came),
         ExitKind::Missed | ExitKind::Dead => false,
     }
 }
@@ -191,13 +193,57 @@ fn push_line(words: &mut Vec<u8>, line: &[u8]) -> Result<(), AllocError>
 }
 
 /// Appends what is known of the exits of a test, as it is read aloud.
-fn push_exits(words: &mut Vec<u8>, yes: ExitKind, no: ExitKind) -> Result<(), AllocError>
+fn push_exits(
+    alloc: Global,
+    words: &mut Vec<u8>,
+    yes: ExitKind,
+    no: ExitKind,
+) -> Result<(), AllocError>
     ensures { OnOk result (words.new.items ≡ words.old.items ++ exit_words yes no) }
 {
     push_ways(words, b"taken", yes.is_taken(), no.is_taken())?;
+    push_count(alloc, words, b"yes", yes.count())?;
+    push_count(alloc, words, b"no", no.count())?;
     push_ways(words, b"missed", yes.is_missed(), no.is_missed())?;
     push_ways(words, b"never taken", yes.is_dead(), no.is_dead())?;
     Ok(())
+}
+
+/// Appends how many runs took a way behind a test, as it is read aloud.
+fn push_count(
+    alloc: Global,
+    words: &mut Vec<u8>,
+    way: &[u8],
+    count: Option<u64>,
+) -> Result<(), AllocError>
+    ensures { OnOk result (words.new.items ≡ words.old.items ++ counted_way way.now count) }
+{
+    match count {
+        Some(count) => push_runs(alloc, words, way, count),
+        None => Ok(()),
+    }
+}
+
+/// Appends that so many runs took a way behind a test, as it is read aloud.
+fn push_runs(alloc: Global, words: &mut Vec<u8>, way: &[u8], count: u64) -> Result<(), AllocError>
+    ensures { OnOk result (words.new.items ≡ words.old.items ++ counted_way way.now (Some count)) }
+{
+    let runs = runs_text(alloc, count)?;
+    words.extend_from_slice(b"; ")?;
+    words.extend_from_slice(way)?;
+    words.extend_from_slice(b": ")?;
+    words.extend_from_slice(runs.as_bytes())
+}
+
+/// A number of runs.
+pub fn runs_text(alloc: Global, count: u64) -> Result<String, AllocError>
+    ensures { IfOk result (λ text. string_bytes text ≡ runs_text count) }
+{
+    if count == 1 {
+        format!(in alloc; "{count} run")
+    } else {
+        format!(in alloc; "{count} runs")
+    }
 }
 
 /// Appends which of the ways behind a test are so, as they are read aloud.

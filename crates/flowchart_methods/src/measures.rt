@@ -26,6 +26,12 @@ pub(crate) const CALL_BASE: Px = Px(21);
 /// How far below it those of its place stand.
 pub(crate) const CALL_PLACE_BASE: Px = Px(20);
 
+/// How much higher its place stands where a word stands below it.
+pub(crate) const CALL_PLACE_RISE: Px = Px(6);
+
+/// How far below its place that word stands.
+pub(crate) const CALL_WORD_DROP: Px = Px(14);
+
 /// How far below the top of the symbol with which a method begins or ends its letters stand.
 pub(crate) const TERMINATOR_BASE: Px = Px(20);
 

@@ -11,7 +11,8 @@ use crate::conditions::Condition;
 use crate::kind::{ExitKind, MarkKind};
 use crate::mark::Mark;
 use crate::measures::{
-    CALL_BASE, CALL_LINE, CALL_PLACE_BASE, MARK_SIDE, PLACE_BASE, TEXT_BASE, px,
+    CALL_BASE, CALL_LINE, CALL_PLACE_BASE, CALL_PLACE_RISE, CALL_WORD_DROP, MARK_SIDE, PLACE_BASE,
+    TEXT_BASE, px,
 };
 use chart_layout::{
     BENEATH_INDENT, BOX_SIDE, CALL_HEIGHT, CALL_SIDE, Call, LINE_HEIGHT, Line, Piece, Px,
@@ -124,7 +125,7 @@ fn box_symbol(
     let mut page = Page::new(alloc);
     let fills = [px(x), px(y), px(width), px(height)];
     match first_kind(subject, row) {
-        MarkKind::Nothing | MarkKind::Told => page.put(
+        MarkKind::Nothing | MarkKind::Told | MarkKind::Came => page.put(
             "<rect class=\"b\" x=\"%\" y=\"%\" width=\"%\" height=\"%\"/>",
             &fills,
         )?,
@@ -234,7 +235,7 @@ fn hexagon(
 /// Appends a hexagon of these measures, by what is known of its test.
 fn put_hexagon(page: &mut Page, kind: MarkKind, numbers: &[Fill<'_>]) -> Result<(), AllocError> {
     match kind {
-        MarkKind::Nothing | MarkKind::Told => page.put(
+        MarkKind::Nothing | MarkKind::Told | MarkKind::Came => page.put(
             "<path class=\"d\" d=\"M% %l% -%h%l% %l-% %h-%z\"/>",
             numbers,
         ),
@@ -362,6 +363,7 @@ fn put_known<'a>(
         MarkKind::Nothing => page.put(KNOWN_START, &fills),
         MarkKind::Run(_) => page.put(RAN_START, &fills),
         MarkKind::Told => page.put(KNOWN_START, &fills),
+        MarkKind::Came => page.put(KNOWN_START, &fills),
         MarkKind::Missed => page.put(MISSED_START, &fills),
         MarkKind::Dead => page.put(DEAD_START, &fills),
     }
@@ -604,16 +606,47 @@ fn call_symbol(
     let mut page = Page::new(alloc);
     write_call_link(&mut page, subject, x, y, call)?;
     let end = x + call.width() - CALL_SIDE;
-    write_place(
-        &mut page,
-        subject,
-        call.number,
-        call.is_refused,
-        end,
-        y + CALL_PLACE_BASE,
-    )?;
+    write_call_place(&mut page, subject, call, end, y + CALL_PLACE_BASE)?;
     page.put("</g>", &[])?;
     Ok(page)
+}
+
+/// Appends the place of an EXECUTE, which ends at `x`, and below it a word for what is known of it, where something is.
+fn write_call_place(
+    page: &mut Page,
+    subject: Subject<'_>,
+    call: &Call,
+    x: Px,
+    y: Px,
+) -> Result<(), AllocError> {
+    match call_word(subject, call.number) {
+        Some(word) => {
+            let above = y - CALL_PLACE_RISE;
+            write_place(page, subject, call.number, call.is_refused, x, above)?;
+            page.put(
+                "<text class=\"p v\" x=\"%\" y=\"%\">%</text>",
+                &[px(x), px(above + CALL_WORD_DROP), Fill::Text(word)],
+            )
+        }
+        None => write_place(page, subject, call.number, call.is_refused, x, y),
+    }
+}
+
+/// What is known of the EXECUTE of a number, in a word: the first line of its mark, or that no run may come there.
+fn call_word<'a>(subject: Subject<'a>, number: u32) -> Option<&'a [u8]> {
+    let mark = subject.mark(number)?;
+    match mark.kind() {
+        MarkKind::Dead => Some("unreachable".as_bytes()),
+        _ => first_line(mark.lines()),
+    }
+}
+
+/// The first of some lines.
+fn first_line(lines: &[Vec<u8>]) -> Option<&[u8]> {
+    match lines {
+        [line, ..] => Some(line.as_slice()),
+        [] => None,
+    }
 }
 
 /// Appends the box of an EXECUTE, as a link to its method where that is there.

@@ -24,7 +24,7 @@ use Rattle.flowchart_methods.specs.Captions.{AreCaptions, methods_of}
 use Rattle.flowchart_methods.proofs.Laws.{turn-before, turn-behind, adds_none, adds_before, adds_behind, adds_then}
 use Rattle.flowchart_page.specs.Findings.{Finding, IsFound, marked}
 use Rattle.flowchart_page.specs.Heads.{page_head}
-use Rattle.flowchart_page.specs.Runs.{RunParts, run_texts, run_marks}
+use Rattle.flowchart_page.specs.Runs.{RunParts, run_texts, run_marks, run_internals}
 use Rattle.flowchart_page.specs.Declarations.{TableSource}
 use Rattle.flowchart_page.specs.Judged.{finding_of, words_of, HasLine}
 use Rattle.flowchart_page.specs.Pages.{page_end, IsWholePage, Says, AreLimits, IsRunPage}
@@ -122,7 +122,8 @@ tree_page run finding verdict plan file notes limits tree page noted read shown 
 pub site_page : (run : Option RunParts) (finding : Finding) (verdict : Site → List ℕ) (notes : Notes) (limits : Option Limits) (site : Site)
     (captions : List (List ℕ)) (tree : ElementTree) (page : List ℕ) → named_statement site ≡ marked finding
     → AreCaptions (named_statement site) (run_marks run) (methods_of tree) captions
-    → HasTable run (record { notes = notes; limits = limits; finding = finding; site = site }) tree captions (verdict site) page
+    → HasTable run (record { notes = notes; limits = limits; finding = finding; internals = run_internals run; site = site }) tree
+    captions (verdict site) page
     → ShowsRead run notes limits finding verdict tree page
 site_page run finding verdict notes limits site captions tree page names are has = record {
   site = site;

@@ -1,7 +1,8 @@
 -- What an input carries over, binding by binding.
-use Rattle.std.proofs.Common.{◌≡◌, ℕ, Bool, true, false, ◌+◌, ◌<◌, List, [], ◌∷◌, ◌++◌, length, take, get_or, refl, sym, ap, ◌∙◌, append_assoc}
-use Rattle.std.specs.Prelude.{filter, if◌then◌else◌}
+use Rattle.std.proofs.Common.{◌≡◌, ℕ, zero, suc, Bool, true, false, ◌+◌, ◌<◌, List, [], ◌∷◌, ◌++◌, length, map, take, get_or, refl, sym, ap, ◌∙◌, append_assoc}
+use Rattle.std.specs.Prelude.{filter, if◌then◌else◌, unwrap_or, slice_get}
 use Rattle.std.specs.List.{flat_map}
+use Rattle.std.specs.Option.{option_map_or}
 use Rattle.std.specs.Str.{bytes_eq}
 use Rattle.std.proofs.lemmas.List.{append-nil, take_more}
 use Rattle.std.proofs.lemmas.List.Elements.{filter-append}
@@ -44,3 +45,10 @@ carries_more bindings i b name old text new some at so_far written =
     ∙ ap (λ l. old ++ l) (sym (carries-append before (b ∷ []) name))
     ∙ ap (λ x. old ++ carries_text (before ++ x ∷ []) name) at
     ∙ ap (λ l. old ++ carries_text l name) (sym (take_more bindings i b some))
+
+-- the text of a number
+pub text_of : {A : Type 0} (g : A → List ℕ) (texts : List A) (number : ℕ)
+    → unwrap_or (slice_get (map g texts) number) [] ≡ option_map_or g (slice_get texts number) []
+text_of g [] number = refl
+text_of g (x ∷ xs) zero = refl
+text_of g (x ∷ xs) (suc number) = text_of g xs number

@@ -20,8 +20,7 @@ use Rattle.flowchart_markup.specs.Escapes.{escaped}
 use Rattle.flowchart_methods.specs.Comments.{comments_text}
 use Rattle.flowchart_methods.specs.Turns.{AddsInTurn}
 use Rattle.flowchart_methods.proofs.Laws.{adds_none, adds_before, adds_behind, adds_then}
-use Rattle.flowchart_page.specs.Declarations.{value_cells, table_item_text, table_items_text, comments_above, items_cell, row_start, IsRow, is_named, TableSource, IsRowIn, AreRows, group_heading, IsGroup, IsDeclarationTable}
-use Rattle.flowchart_page.specs.Ranges.{range_shown}
+use Rattle.flowchart_page.specs.Declarations.{value_cells, table_item_text, table_items_text, comments_above, items_cell, row_start, IsRow, is_named, range_shown, TableSource, IsRowIn, AreRows, group_heading, IsGroup, IsDeclarationTable}
 use Rattle.flowchart_page.specs.private.TableViews.{AddsCells, AddsRow, AddsNamed, AddsRows, AddsGroup, AddsTable}
 
 -- HTML that is none of the texts
@@ -150,10 +149,10 @@ row_added is_refused range comments d old p q new started cells closed =
 -- the row of a declaration by its number among those of a kind
 pub row_as : (source : TableSource) (element : Element) (index : ℕ) (is_refused : Bool) (range : List ℕ)
     (comments : List (String Global)) (d : RawDeclaration) (old new : List ℕ) → is_refused ≡ is_named source.site d.name
-    → range ≡ range_shown element source.limits source.finding index d.name → AddsRow is_refused range comments d old new
+    → range ≡ range_shown source element index d.name → AddsRow is_refused range comments d old new
     → AddsNamed source element index comments d old new
 row_as source element index is_refused range comments d old new named shown row =
-    subst (λ b. AddsRow b (range_shown element source.limits source.finding index d.name) comments d old new) named
+    subst (λ b. AddsRow b (range_shown source element index d.name) comments d old new) named
     (subst (λ r. AddsRow is_refused r comments d old new) shown row)
 
 rows_push : (source : TableSource) (element : Element) (from : ℕ) (ds : List RawDeclaration) (d : RawDeclaration)

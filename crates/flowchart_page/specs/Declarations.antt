@@ -1,5 +1,5 @@
 -- The table of declarations: of each declaration its name, its type, its value, its range and its comments.
-use Rattle.std.specs.Prelude.{◌≡◌, ◌⊎◌, ℕ, ◌+◌, ◌==◌, Bool, false, if◌then◌else◌, Option, unwrap_or, List, [], ◌∷◌, ◌++◌, length, codes, String}
+use Rattle.std.specs.Prelude.{◌≡◌, ◌⊎◌, ℕ, ◌+◌, ◌==◌, Bool, false, if◌then◌else◌, Option, Some, None, unwrap_or, List, [], ◌∷◌, ◌++◌, length, codes, String}
 use Rattle.std.specs.declared.alloc.Global.{Global}
 use Rattle.std.specs.Fmt.{decimal, signed_decimal}
 use Rattle.std.specs.Str.{bytes_eq}
@@ -24,7 +24,7 @@ use Rattle.flowchart_methods.specs.Comments.{comments_text}
 use Rattle.flowchart_methods.specs.declared.site.Site.{Site}
 use Rattle.flowchart_methods.specs.declared.site.Site.TheVariants.{Declared}
 use Rattle.flowchart_page.specs.Findings.{Finding}
-use Rattle.flowchart_page.specs.Ranges.{range_shown}
+use Rattle.flowchart_page.specs.Ranges.{input_text, output_text, internal_text}
 
 -- ---- values
 
@@ -91,11 +91,12 @@ pub record IsRow (is_refused : Bool) (range : List ℕ) (comments : List (String
   pub is : row ≡ row_start is_refused d.name d.kind ++ (cells ++ codes "</tr>\n")
 
 -- what a table shows beside the plan's declarations: the file's comments, its range file where that is read, what is found of the
--- plan, and what a refusal names
+-- plan, the ranges of its internals, and what a refusal names
 pub record TableSource : Type 0 where
   pub notes : Notes
   pub limits : Option Limits
   pub finding : Finding
+  pub internals : List (List ℕ)
   pub site : Site
 
 -- the declared name is what a refusal names
@@ -103,10 +104,23 @@ abbrev pub is_named : Site → List ℕ → Bool
 is_named (Declared named) name = bytes_eq named name
 is_named _ name = false
 
+-- the range of an input of a name, by the range file
+abbrev pub input_range_shown : Option Limits → List ℕ → List ℕ
+input_range_shown (Some limits) name = input_text limits name
+input_range_shown None name = []
+
+-- the range of the declaration of a number and a name of a kind, where one is known: of an input by the range file, of an output by
+-- what is found, of an internal over the whole run
+abbrev pub range_shown : TableSource → Element → ℕ → List ℕ → List ℕ
+range_shown source Input index name = input_range_shown source.limits name
+range_shown source Output index name = output_text source.finding index
+range_shown source Internal index name = internal_text source.internals index
+range_shown source _ index name = []
+
 -- the row of the declaration of a number among those of a kind, counted from 0: its comments are those before its start tag
 abbrev pub IsRowIn : TableSource → Element → ℕ → RawDeclaration → List ℕ → Type 0
 IsRowIn source element index d row =
-    IsRow (is_named source.site d.name) (range_shown element source.limits source.finding index d.name)
+    IsRow (is_named source.site d.name) (range_shown source element index d.name)
     (comments_before source.notes element index) d row
 
 -- a row for each declaration of a kind, in the order of the file, from the numbered one on

@@ -3,12 +3,8 @@ use Rattle.std.specs.Prelude.{ℕ, List, [], ◌∷◌, ◌++◌, codes, Option,
 use Rattle.std.specs.declared.alloc.Global.{Global}
 use Rattle.flowchart_markup.specs.Escapes.{escaped}
 use Rattle.flowchart_methods.specs.Comments.{comments_text}
-use Rattle.flowchart_page.specs.Styles.{style_sheet}
-
--- how a page begins, up to its title
-abbrev pub page_start : List ℕ
-page_start =
-    codes "<!DOCTYPE html>\n<html lang=\"en\">\n<head>\n<meta charset=\"utf-8\">\n<meta name=\"viewport\" content=\"width=device-width, initial-scale=1\">\n<title>"
+use Rattle.page_frame.specs.Starts.{page_start}
+use Rattle.page_frame.specs.Styles.{style_sheet}
 
 -- what stands between the style sheet and the title of the page's body
 abbrev pub body_start : List ℕ

@@ -1,7 +1,6 @@
 pub mod Verdicts
 pub mod Findings
 pub mod Judged
-pub mod Styles
 pub mod Heads
 pub mod Ranges
 pub mod Declarations

@@ -23,7 +23,7 @@ use Rattle.flowchart_methods.specs.Turns.{StandInTurn}
 use Rattle.flowchart_methods.specs.Captions.{AreCaptions, methods_of}
 use Rattle.flowchart_page.specs.Findings.{Finding, accepted, in_order, refused, IsFound, marked}
 use Rattle.flowchart_page.specs.Heads.{page_head}
-use Rattle.flowchart_page.specs.Runs.{RunParts, run_texts, run_marks}
+use Rattle.flowchart_page.specs.Runs.{RunParts, run_texts, run_marks, run_internals}
 use Rattle.flowchart_page.specs.Declarations.{IsDeclarationTable}
 
 -- the last line of a page
@@ -109,14 +109,16 @@ AreLimits None (Some limits) = ⊥
 AreLimits (Some file) (Some limits) = FileSays file (Ok limits)
 AreLimits (Some file) None = (fault : Fault) × FileSays file (Err fault)
 
--- the titles and rows of the table of a plan of these elements, by the comments of its file and by its range file
-pub record IsPlanTable (plan : List ℕ) (file : Option (List ℕ)) (finding : Finding) (site : Site) (tree : ElementTree)
-    (texts : List (List ℕ)) : Type 0 where
+-- the titles and rows of the table of a plan of these elements, by the comments of its file and by its range file, and with what is
+-- known of its internals
+pub record IsPlanTable (run : Option RunParts) (plan : List ℕ) (file : Option (List ℕ)) (finding : Finding) (site : Site)
+    (tree : ElementTree) (texts : List (List ℕ)) : Type 0 where
   pub notes : Notes
   pub noted : HasNotes plan notes
   pub limits : Option Limits
   pub read : AreLimits file limits
-  pub table : IsDeclarationTable (record { notes = notes; limits = limits; finding = finding; site = site }) tree texts
+  pub table : IsDeclarationTable
+      (record { notes = notes; limits = limits; finding = finding; internals = run_internals run; site = site }) tree texts
 
 -- What a page says of a plan of these elements, one text behind another: the table of its declarations, and the captions of its
 -- methods, which say what a run did. Where its refusal names a statement by its method's name and its number, the one of that number is
@@ -125,7 +127,7 @@ pub record AreTreeTexts (run : Option RunParts) (plan : List ℕ) (file : Option
     (tree : ElementTree) (texts : List (List ℕ)) : Type 0 where
   pub names : named_statement site ≡ marked finding
   pub table : List (List ℕ)
-  pub is_table : IsPlanTable plan file finding site tree table
+  pub is_table : IsPlanTable run plan file finding site tree table
   pub captions : List (List ℕ)
   pub are_captions : AreCaptions (marked finding) (run_marks run) (methods_of tree) captions
   pub is : texts ≡ table ++ captions

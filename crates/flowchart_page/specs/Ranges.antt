@@ -1,5 +1,5 @@
 -- The ranges of declared names as the table of declarations shows them.
-use Rattle.std.specs.Prelude.{ℕ, ◌==◌, if◌then◌else◌, Option, Some, None, List, [], ◌++◌, codes, filter, slice_get}
+use Rattle.std.specs.Prelude.{ℕ, ◌==◌, if◌then◌else◌, unwrap_or, List, [], ◌++◌, codes, filter, slice_get}
 use Rattle.std.specs.Fmt.{decimal}
 use Rattle.std.specs.List.{flat_map}
 use Rattle.std.specs.Option.{option_map_or}
@@ -13,8 +13,6 @@ use Rattle.limits_file.specs.declared.limits.Carry.TheVariants.{Sum, Last, Count
 use Rattle.limits_file.specs.declared.limits.InputLimit.{InputLimit}
 use Rattle.limits_file.specs.declared.limits.Limits.{Limits}
 use Rattle.limits_file.specs.Limits.{limit_named}
-use Rattle.pap_reader.specs.declared.element.Element.{Element}
-use Rattle.pap_reader.specs.declared.element.Element.TheVariants.{Input, Output}
 use Rattle.flowchart_page.specs.Findings.{Finding, accepted}
 
 -- how many digits the values of an input have behind the point at most, where they may have some
@@ -54,9 +52,6 @@ abbrev pub output_text : Finding → ℕ → List ℕ
 output_text (accepted m) number = option_map_or (λ output. range_text output.range) (slice_get m.outputs number) []
 output_text _ number = []
 
--- the range of the declaration of a number and a name of a kind, where one is known: of inputs by the range file, of outputs by what
--- was found
-abbrev pub range_shown : Element → Option Limits → Finding → ℕ → List ℕ → List ℕ
-range_shown Input (Some limits) finding number name = input_text limits name
-range_shown Output limits finding number name = output_text finding number
-range_shown _ _ _ _ _ = []
+-- the range of the internal of a number over the whole run, where one is known
+abbrev pub internal_text : List (List ℕ) → ℕ → List ℕ
+internal_text internals number = unwrap_or (slice_get internals number) []

@@ -1,20 +1,21 @@
 -- What a page shows of a run, or of all runs.
-use Rattle.std.specs.Prelude.{ℕ, List, [], ◌∷◌, Option, Some, None}
+use Rattle.std.specs.Prelude.{ℕ, List, [], ◌∷◌, map, Option, Some, None}
 use Rattle.flowchart_methods.specs.Marks.{Marked}
 use Rattle.flowchart_page.specs.declared.chart.RunShown.{RunShown}
 
--- the part of the page that tells of the run, and what is known of the statements of each method
+-- the part of the page that tells of the run, what is known of the statements of each method, and the ranges of internals
 pub record RunParts : Type 0 where
   pub part : List ℕ
   pub marks : List (List Marked)
+  pub internals : List (List ℕ)
 
 -- what the code hands over
 abbrev pub run_parts : RunShown → RunParts
-run_parts r = record { part = r.part.now; marks = r.marks.now }
+run_parts r = record { part = r.part.now; marks = r.marks.now; internals = map (λ t. t.items) r.internals.now }
 
 -- what is known of all runs: no part of the page tells of one
-abbrev pub all_runs : List (List Marked) → RunParts
-all_runs marks = record { part = []; marks = marks }
+abbrev pub all_runs : List (List Marked) → List (List ℕ) → RunParts
+all_runs marks internals = record { part = []; marks = marks; internals = internals }
 
 -- the part of the page, where there is a run
 abbrev pub run_texts : Option RunParts → List (List ℕ)
@@ -25,3 +26,8 @@ run_texts None = []
 abbrev pub run_marks : Option RunParts → List (List Marked)
 run_marks (Some run) = run.marks
 run_marks None = []
+
+-- the ranges of the internals: nothing where there is no run
+abbrev pub run_internals : Option RunParts → List (List ℕ)
+run_internals (Some run) = run.internals
+run_internals None = []

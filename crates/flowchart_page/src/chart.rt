@@ -1,5 +1,5 @@
 //! The whole page.
-ghost use Rattle.std.specs.Prelude.{◌≡◌, ◌++◌, [], Some, option_map, IfOk, OnOk, string_bytes};
+ghost use Rattle.std.specs.Prelude.{◌≡◌, ◌++◌, [], Some, map, option_map, IfOk, OnOk, string_bytes};
 ghost use Rattle.std.specs.List.{flat_map};
 ghost use Rattle.pap_reader.specs.Trees.{tree_of};
 ghost use Rattle.flowchart_methods.specs.Chapters.{chapter_captions};
@@ -10,7 +10,7 @@ ghost use Rattle.flowchart_methods.specs.declared.site.Site.TheVariants.{Nowhere
 ghost use Rattle.flowchart_page.specs.Findings.{IsFound};
 ghost use Rattle.flowchart_page.specs.Judged.{finding_of, words_of, HasLine};
 ghost use Rattle.flowchart_page.specs.Pages.{IsWholePage, AreLimits, IsPage, IsRunPage};
-ghost use Rattle.flowchart_page.specs.Runs.{all_runs, run_parts, run_texts, run_marks};
+ghost use Rattle.flowchart_page.specs.Runs.{all_runs, run_parts, run_texts, run_marks, run_internals};
 ghost use Rattle.flowchart_page.specs.private.PageViews.{IsAround, ShowsTree, ShowsRead, HasTable, IsBehind, ShowsVerdict};
 ghost use Rattle.flowchart_page.specs.private.SourceViews.{table_source};
 ghost use Rattle.flowchart_page.specs.private.VerdictViews.{verdict_text};
@@ -43,10 +43,14 @@ pub struct Chart {
 /// What a page shows of a run, or of all runs.
 #[derive(Clone, Copy)]
 pub struct RunShown<'a> {
-    /// The part of the page that tells of the run: it stands above the index of the methods. It is empty where there is no one run.
+    /// The part of the page that tells of the run, or of all runs: it stands above the index of the methods.
     pub part: &'a Page,
     /// What is known of the statements of each method, MAIN first; nothing where they aren't marked.
     pub marks: &'a [MethodMarks],
+    /// What the marks tell.
+    pub marking: Marking,
+    /// The ranges of the internals over the whole run, in declared order; nothing where they aren't known.
+    pub internals: &'a [Vec<u8>],
 }
 
 impl<'a> RunShown<'a> {
@@ -56,6 +60,16 @@ impl<'a> RunShown<'a> {
     {
         match run {
             Some(run) => run.marks,
+            None => &[],
+        }
+    }
+
+    /// The ranges of the internals: nothing where there is no run.
+    fn internals(run: Option<RunShown<'a>>) -> &'a [Vec<u8>]
+        ensures { map (λ t. t.items) result.now ≡ run_internals (option_map run_parts run.entry) }
+    {
+        match run {
+            Some(run) => run.internals,
             None => &[],
         }
     }
@@ -107,25 +121,33 @@ pub fn draw_judged(
     write_chart(alloc, plan, limits, verdict, run)
 }
 
-/// The page of a plan's bytes and a range file's, with what is known of all runs in the drawings. Takes time as `draw_chart`.
+/// The page of a plan's bytes and a range file's, with what is known of all runs: in the drawings, and of the internals in the table of
+/// declarations, a text for each in declared order. Takes time as `draw_chart`.
 #[tactic(auto, using(crate::proofs::PageLemmas::reworded))]
 pub fn draw_ranged(
     alloc: Global,
     plan: TextFile<'_>,
     limits: TextFile<'_>,
     marks: &[MethodMarks],
+    internals: &[Vec<u8>],
 ) -> Result<Chart, AllocError>
     // Why the plan is refused, where it is.
     ensures judged { IfOk result (λ chart. IsJudged (named_text plan.entry)
         (Some (named_text limits.entry)) (option_map (λ words. string_bytes words) chart.reason)) }
-    // What the page says of the plan, and that its drawings have these marks.
-    ensures page { IfOk result (λ chart. IsRunPage (Some (all_runs marks.now))
+    // What the page says of the plan, and that its drawings have these marks and its internals these ranges.
+    ensures page { IfOk result (λ chart. IsRunPage
+        (Some (all_runs marks.now (map (λ t. t.items) internals.now)))
         plan.entry.bytes.now (Some limits.entry.bytes.now)
         (option_map (λ words. string_bytes words) chart.reason) chart.page.items) }
 {
     let verdict = judge(alloc, plan, Some(limits))?;
     let part = Page::new(alloc);
-    let shown = RunShown { part: &part, marks };
+    let shown = RunShown {
+        part: &part,
+        marks,
+        marking: Marking::Ranges,
+        internals,
+    };
     let page = draw_judged(alloc, plan, Some(limits), &verdict, Some(shown))?;
     Ok(Chart {
         page,
@@ -316,6 +338,7 @@ fn behind_verdict(
         notes: source.notes,
         limits: source.limits,
         verdict: source.verdict,
+        internals: RunShown::internals(source.run),
         site,
     };
     write_declarations(&mut page, declarations)?;
@@ -361,18 +384,10 @@ fn counts_of(alloc: Global, chapters: &[Chapter<'_>]) -> Result<Page, AllocError
     Ok(page)
 }
 
-/// What the marks in the drawings tell: of a run, where a part of the page tells of one.
+/// What the marks in the drawings tell.
 fn marking_of(run: Option<RunShown<'_>>) -> Marking {
     match run {
-        Some(run) => {
-            if run.marks.is_empty() {
-                Marking::Nothing
-            } else if run.part.is_empty() {
-                Marking::Ranges
-            } else {
-                Marking::Run
-            }
-        }
+        Some(run) => run.marking,
         None => Marking::Nothing,
     }
 }

@@ -3,13 +3,13 @@ ghost use Rattle.std.specs.Prelude.{◌≡◌, ◌++◌, [], IsTrue, IfOk, OnOk,
 ghost use Rattle.pap_tree.specs.Declarations.{declared_of};
 ghost use Rattle.pap_reader.specs.Attributes.{type_word};
 ghost use Rattle.pap_reader.specs.Trees.{raw_declaration_of, tree_of};
-ghost use Rattle.flowchart_page.specs.Declarations.{value_cells, table_item_text, table_items_text, comments_above, items_cell, literal_cells, row_start, is_named, group_title, group_heading};
-ghost use Rattle.flowchart_page.specs.Ranges.{range_shown, output_text};
+ghost use Rattle.flowchart_page.specs.Declarations.{value_cells, table_item_text, table_items_text, comments_above, items_cell, literal_cells, row_start, is_named, range_shown, group_title, group_heading};
+ghost use Rattle.flowchart_page.specs.Ranges.{output_text};
 ghost use Rattle.flowchart_page.specs.private.TableViews.{source_of, AddsCells, AddsRow, AddsNamed, AddsRows, AddsGroup, AddsTable};
 ghost use Rattle.flowchart_page.specs.Judged.{finding_of};
 ghost use Rattle.flowchart_methods.specs.Turns.{AddsInTurn};
 
-use crate::ranges::{input_range, output_range};
+use crate::ranges::{input_range, internal_range, output_range};
 use crate::verdict::Verdict;
 use flowchart_markup::{Fill, Page};
 use flowchart_methods::{Site, write_comments, write_paragraphs};
@@ -29,6 +29,8 @@ pub(crate) struct Declarations<'a> {
     /// The range file, where it is read.
     pub limits: &'a Option<Limits>,
     pub verdict: &'a Verdict,
+    /// The ranges of the internals over the whole run, in declared order; nothing where they aren't known.
+    pub internals: &'a [Vec<u8>],
     /// What the refusal names.
     pub site: &'a Site,
 }
@@ -310,14 +312,15 @@ fn range_of(
     element: Element,
     number: usize,
     name: &Name,
-) -> Result<String, AllocError>
-    ensures { IfOk result (λ text. string_bytes text ≡ range_shown element declarations.entry.limits.now
-        (finding_of declarations.entry.verdict.now) number name.now) }
+) -> Result<Vec<u8>, AllocError>
+    ensures { IfOk result (λ text. text.items
+        ≡ range_shown (source_of declarations.entry) element number name.now) }
 {
     match (element, declarations.limits) {
-        (Element::Input, Some(limits)) => input_range(alloc, limits, name),
-        (Element::Output, _) => found_range(alloc, declarations.verdict, number),
-        _ => Ok(String::new(alloc)),
+        (Element::Input, Some(limits)) => Ok(input_range(alloc, limits, name)?.into_bytes()),
+        (Element::Output, _) => Ok(found_range(alloc, declarations.verdict, number)?.into_bytes()),
+        (Element::Internal, _) => internal_range(alloc, declarations.internals, number),
+        _ => Ok(Vec::new(alloc)),
     }
 }
 
@@ -340,7 +343,7 @@ fn write_row(
     page: &mut Page,
     is_refused: bool,
     declared: &RawDeclared,
-    range: &str,
+    range: &[u8],
     comments: &[String],
 ) -> Result<(), AllocError>
     ensures { OnOk result (AddsRow is_refused range.now comments.now
@@ -380,7 +383,7 @@ fn write_row_start(
 fn write_value(
     page: &mut Page,
     declared: &RawDeclared,
-    range: &str,
+    range: &[u8],
     comments: &[String],
 ) -> Result<(), AllocError>
     ensures { OnOk result (AddsCells (unwrap_or (raw_declaration_of declared.now).value [])
@@ -412,7 +415,7 @@ fn value_text(declared: &RawDeclared) -> &[u8]
 fn write_literal(
     page: &mut Page,
     literal: &Literal,
-    range: &str,
+    range: &[u8],
     comments: &[String],
 ) -> Result<(), AllocError>
     ensures { OnOk result (page.new
@@ -439,14 +442,14 @@ fn write_literal(
 fn write_cells(
     page: &mut Page,
     value: &str,
-    range: &str,
+    range: &[u8],
     comments: &[String],
 ) -> Result<(), AllocError>
     ensures { OnOk result (page.new ≡ page.old ++ value_cells value.now range.now comments.now) }
 {
     page.put(
         "<td class=\"num\">%<td class=\"num\">%<td>",
-        &[Fill::Text(value.as_bytes()), Fill::Text(range.as_bytes())],
+        &[Fill::Text(value.as_bytes()), Fill::Text(range)],
     )?;
     write_comments(page, comments)?;
     Ok(())

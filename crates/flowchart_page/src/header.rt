@@ -8,16 +8,12 @@ ghost use Rattle.flowchart_page.specs.Heads.{page_head, head_start, version_text
 ghost use Rattle.flowchart_page.specs.Pages.{shown_parts, shown_words, link_text, accepted_text, refused_text};
 ghost use Rattle.flowchart_page.specs.private.VerdictViews.{verdict_text};
 
-use crate::style::STYLE;
 use crate::verdict::{Reason, Verdict};
 use flowchart_markup::{Page, push_escaped};
 use flowchart_methods::{Site, write_comments};
+use page_frame::{page_start, style_sheet};
 use pap_plan::Plan;
 use std::alloc::{AllocError, Global};
-
-/// How a page begins, up to its title.
-const PAGE_START: &str =
-    "<!DOCTYPE html>\n<html lang=\"en\">\n<head>\n<meta charset=\"utf-8\">\n<meta name=\"viewport\" content=\"width=device-width, initial-scale=1\">\n<title>";
 
 /// What stands between the style sheet and the title of the page's body.
 const BODY_START: &str =
@@ -47,10 +43,10 @@ pub(crate) fn push_head(alloc: Global, html: &mut Vec<u8>, head: Head<'_>) -> Re
 fn push_head_start(html: &mut Vec<u8>, title: &str) -> Result<(), AllocError>
     ensures { OnOk result (html.new.items ≡ html.old.items ++ head_start title.now) }
 {
-    push_own(html, PAGE_START)?;
+    push_own(html, page_start())?;
     push_escaped(html, title.as_bytes())?;
     push_own(html, ": flowchart</title>\n<style>\n")?;
-    push_own(html, STYLE)?;
+    push_own(html, style_sheet())?;
     push_own(html, BODY_START)?;
     push_escaped(html, title.as_bytes())?;
     Ok(())

@@ -9,18 +9,24 @@ const KEY: &str =
 
 /// What the marks in the drawings tell.
 #[derive(Clone, Copy)]
-pub(crate) enum Marking {
+pub enum Marking {
     /// Nothing: there are none.
     Nothing,
     /// The way of a run.
     Run,
     /// What is known of all runs within the ranges.
     Ranges,
+    /// How many runs came to each statement.
+    Counts,
 }
 
 /// What the marks of a page with ranges tell, below the key.
 const RANGES_KEY: &str =
     "<p class=\"key\">Under each assignment stands the range of what it puts: from the least to the greatest value that a run within the ranges of the inputs can give it. What no such run comes to is grey and dashed, and says so.</p>\n";
+
+/// What the marks of a page with numbers of runs tell, below the key.
+const COUNTS_KEY: &str =
+    "<p class=\"key\">Each statement says how many runs came there, and each way of a test how many took it. What no run came to is red and dashed, and says never or missed. What no run within the ranges of the inputs can come to is grey and dashed, and says unreachable.</p>\n";
 
 /// Appends the index of the methods, and the start of what stands beside it, by what the drawings tell.
 pub(crate) fn write_index(
@@ -45,7 +51,7 @@ pub(crate) fn write_index(
             "</ul><p><a href=\"#declarations\">Declarations</a></p></nav><main class=\"traced\">\n",
             &[],
         ),
-        Marking::Ranges => page.put(
+        Marking::Ranges | Marking::Counts => page.put(
             "</ul><p><a href=\"#declarations\">Declarations</a></p></nav><main class=\"ranged\">\n",
             &[],
         ),
@@ -78,6 +84,7 @@ pub(crate) fn write_key(page: &mut Page, marking: Marking) -> Result<(), AllocEr
     page.put(KEY, &[])?;
     match marking {
         Marking::Ranges => page.put(RANGES_KEY, &[]),
+        Marking::Counts => page.put(COUNTS_KEY, &[]),
         Marking::Nothing | Marking::Run => Ok(()),
     }
 }

@@ -7,8 +7,8 @@ mod header;
 mod index;
 mod ranges;
 mod site;
-mod style;
 mod verdict;
 
 pub use chart::{Chart, RunShown, draw_chart, draw_judged, draw_ranged};
+pub use index::Marking;
 pub use verdict::{Reason, Verdict, judge};

@@ -1,9 +1,9 @@
 //! The ranges of declared names as the table shows them.
-ghost use Rattle.std.specs.Prelude.{◌≡◌, ◌++◌, ◌∷◌, [], IfOk, OnOk, find, option_map, string_bytes};
+ghost use Rattle.std.specs.Prelude.{◌≡◌, ◌++◌, ◌∷◌, [], IfOk, OnOk, find, map, option_map, string_bytes};
 ghost use Rattle.std.specs.Option.{option_map_or};
 ghost use Rattle.std.specs.Str.{bytes_eq};
 ghost use Rattle.limits_file.specs.Limits.{limit_named};
-ghost use Rattle.flowchart_page.specs.Ranges.{places_text, limit_text, carry_text, carries_text, input_text, range_text};
+ghost use Rattle.flowchart_page.specs.Ranges.{places_text, limit_text, carry_text, carries_text, input_text, range_text, internal_text};
 
 use interval_analysis::OutputRange;
 use limits_file::{Binding, Carry, InputLimit, Limits};
@@ -104,6 +104,26 @@ fn carry_text(alloc: Global, carry: Carry) -> Result<String, AllocError>
         Carry::Sum(output) => format!(in alloc; "; sum of {output} so far"),
         Carry::Last(output) => format!(in alloc; "; last {output}"),
         Carry::Count => format!(in alloc; "; number of runs so far"),
+    }
+}
+
+/// The range of the internal of a number over the whole run. Empty where none is known.
+#[tactic(auto, using(crate::proofs::RangeLemmas::text_of))]
+pub(crate) fn internal_range(
+    alloc: Global,
+    internals: &[Vec<u8>],
+    number: usize,
+) -> Result<Vec<u8>, AllocError>
+    ensures { IfOk result (λ text. text.items
+        ≡ internal_text (map (λ t. t.items) internals.now) number) }
+{
+    let mut text = Vec::new(alloc);
+    match internals.get(number) {
+        Some(range) => {
+            text.extend_from_slice(range)?;
+            Ok(text)
+        }
+        None => Ok(text),
     }
 }
 

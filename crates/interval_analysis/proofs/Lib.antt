@@ -6,6 +6,7 @@ pub mod ConnectiveLemmas
 pub mod CountLemmas
 pub mod ExpressionLemmas
 pub mod KeptLemmas
+pub mod Laws
 pub mod MeetLemmas
 pub mod MethodLemmas
 pub mod NameLemmas

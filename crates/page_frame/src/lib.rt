@@ -1,5 +1,4 @@
-//! What the page of a comparison begins with: its head, and the style sheet, which has the colours and symbols of the drawn pages and the
-//! rows of changes.
+//! What each page begins with: its head, and the style sheet, which has the colours and symbols of the drawings and the rows of changes.
 #![tactic(auto)]
 
 mod start;

@@ -17,6 +17,7 @@ const USAGE: &str =
     pap_author compare OLD NEW | pap_author compare OLD OLD_LIMITS NEW NEW_LIMITS | \
     pap_author text compare OLD NEW | pap_author text compare OLD OLD_LIMITS NEW NEW_LIMITS | \
     pap_author text trace PLAN LIMITS NAME=VALUE .. | \
+    pap_author cover PLAN LIMITS TABLE | pap_author cover PLAN LIMITS TABLE --at-least N | \
     pap_author text cover PLAN LIMITS TABLE | pap_author text cover PLAN LIMITS TABLE --at-least N";
 
 /// The variable of the environment that says in which form messages are written.
@@ -55,11 +56,15 @@ usage:
   pap_author text trace PLAN LIMITS NAME=VALUE ..
                                    write the run on these inputs: its inputs and outputs, and each statement that it executes,
                                    with its place, its line in PLAN, what it puts or answers, and the values that it reads
-  pap_author text cover PLAN LIMITS TABLE
-                                   write which statements, and which exits of tests, no run of the table comes to, and which share
-                                   the runs come to
-  pap_author text cover PLAN LIMITS TABLE --at-least N
+  pap_author cover PLAN LIMITS TABLE
+                                   write the page of the flowchart with what the runs of the table come to: which share of its
+                                   statements and of the exits of tests, which never, and in the drawings how many runs came there
+  pap_author cover PLAN LIMITS TABLE --at-least N
                                    the same, and end with 1 where that share is below N percent, a number from 0 to 100
+  pap_author text cover PLAN LIMITS TABLE
+                                   write the share and what no run comes to as a text
+  pap_author text cover PLAN LIMITS TABLE --at-least N
+                                   the same, and end with 1 where that share is below N percent
   pap_author --help                write this text
   pap_author --version             write the program's version
 

@@ -1,2 +1,4 @@
 pub mod RangeTexts
 pub mod RangeMarks
+pub mod InternalRanges
+pub mod private

@@ -1,8 +1,12 @@
 //! What the walk over a flowchart's ranges knows of its statements, as the drawings show it: under each EVAL the range of what it puts,
-//! and the statements and exits that no run within the ranges comes to.
+//! and the statements and exits that no run within the ranges comes to. And what it knows of the internals: the range of each over the
+//! whole run.
 #![tactic(auto)]
 
+mod internals;
 mod marks;
+mod place;
 mod text;
 
+pub use internals::internal_ranges;
 pub use marks::range_marks;

@@ -4,6 +4,7 @@ ghost use Rattle.pap_tree.specs.Flowchart.{flowchart_of};
 ghost use Rattle.range_marks.specs.RangeMarks.{findings_in, dead_mark, open_mark, put_lines, exit_of, reached_mark, range_mark};
 ghost use Rattle.range_marks.specs.RangeMarks.{statement_marks, method_name_at, method_marks, range_marks};
 
+use crate::place::place_of;
 use crate::text::ends_text;
 use flowchart_methods::{ExitKind, Mark, MarkKind, MethodMarks};
 use interval_analysis::{Survey, ValueRange};
@@ -47,7 +48,7 @@ fn mark_methods(
 
 /// The name of the method of a number: MAIN is method 0, the others are counted from 1.
 #[tactic(auto, using(crate::proofs::MarkLemmas::item_of))]
-fn method_name_at(plan: &PlanText, number: usize) -> Name
+pub(crate) fn method_name_at(plan: &PlanText, number: usize) -> Name
     ensures { result ≡ method_name_at (flowchart_of plan.now) number }
 {
     if number == 0 {
@@ -91,7 +92,7 @@ fn mark_statements(
     Ok(marks)
 }
 
-/// The mark of the statement of a number. No memory holds so many statements that a number doesn't fit.
+/// The mark of the statement of a number.
 fn mark_at(
     alloc: Global,
     survey: &Survey,
@@ -101,10 +102,8 @@ fn mark_at(
 ) -> Result<Mark, AllocError>
     ensures { IfOk result (λ mark. mark ≡ range_mark (findings_in survey.now) (name.now, at) form) }
 {
-    match u32::try_from(at) {
-        Ok(number) => mark_statement(alloc, survey, &(*name, number), form),
-        Err(_) => Err(AllocError),
-    }
+    let place = place_of(name, at)?;
+    mark_statement(alloc, survey, &place, form)
 }
 
 /// The mark of the statement at a place.

@@ -15,7 +15,7 @@ use Rattle.book_edits.specs.Loads.{first_present}
 use Rattle.recalc_engine.specs.Contents.{Contents}
 use Rattle.recalc_engine.specs.EditAnswers.{IsEdited, put, load}
 use Rattle.table_coverage.specs.TableCoverages.{IsFirstDay, IsBookOf}
-use Rattle.table_coverage.specs.private.Parts.{IsWithoutBook, load_stop}
+use Rattle.table_coverage.specs.private.Parts.{IsMemoryFault, IsWithoutBook, load_stop}
 
 -- ---- the day
 
@@ -36,6 +36,17 @@ put_plans old new e work plans h = ap (λ (b : Contents). b.plans) h.0.1 ∙ ap 
 pub put_years : (old new : Contents) (e : Entry Accepted) (work : Work) → old.years ≡ [] → IsEdited old (put e) new (Ok work)
     → new.years ≡ []
 put_years old new e work years h = ap (λ (b : Contents). b.years) h.0.1 ∙ years
+
+-- putting a plan into a book without plans fails only for lack of memory
+pub put_refused : (old new : Contents) (e : Entry Accepted) (why : EditRefusal) → old.plans ≡ []
+    → IsEdited old (put e) new (Err why) → IsMemoryFault why
+put_refused old new e edits.Plans plans h = let none = ap (λ ps. length ps) plans in omega (arith, h.0.full, none)
+put_refused old new e (edits.Memory error) plans h = tt
+put_refused old new e (edits.Present key) plans h = absurd h.0
+put_refused old new e edits.Records plans h = absurd h.0
+put_refused old new e (edits.Absent employee when) plans h = absurd h.0
+put_refused old new e (edits.Several employee month) plans h = absurd h.0
+put_refused old new e (edits.NoPlanThere day) plans h = absurd h.0
 
 -- ---- the runs
 

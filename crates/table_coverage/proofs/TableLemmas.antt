@@ -42,10 +42,9 @@ use Rattle.coverage_text.specs.CoverageItems.{CoveredMethod}
 use Rattle.coverage_text.specs.FlowchartItems.{KnownPlaces, flowchart_items}
 use Rattle.table_coverage.specs.declared.refusal.CoverRefusal.{CoverRefusal}
 use Rattle.table_coverage.specs.declared.refusal.CoverRefusal.TheVariants as refusals
-use Rattle.table_coverage.specs.declared.table.TableCoverage.{TableCoverage}
 use Rattle.table_coverage.specs.Refusals.{refusal_of_plan, refusal_of_table}
-use Rattle.table_coverage.specs.TableCoverages.{CoverFiles, IsBookOf, TellsItems, TellsCoverage, book_items, accepted_plan, IsCovered, IsCoverRefused}
-use Rattle.table_coverage.specs.private.Parts.{IsReachable, IsBookCovered, IsWithoutBook}
+use Rattle.table_coverage.specs.TableCoverages.{CoverFiles, IsBookOf, RunsFound, found_with, TellsCoverage, book_items, accepted_plan, IsCovered, IsCoverRefused}
+use Rattle.table_coverage.specs.private.Parts.{IsReachable, IsPlanned, IsBookCovered, IsWithoutBook}
 
 if_ok_map : {A E : Type 0} (r : Result A E) (P Q : A → Type 0) → ((a : A) → P a → Q a) → IfOk r P → IfOk r Q
 if_ok_map (Ok a) P Q f h = f a h
@@ -129,10 +128,10 @@ range_refused plan limits b fault why bound h is = subst (λ r. IsRefusedOrMemor
     by (ranges.Memory error) h = tt
 
 pub covered_table : (files : CoverFiles) (reached : BTreeSet StatementPlace) (p : Seen) (runs : List Record) (book : Contents)
-    (c : TableCoverage) → IsReachable files.plan files.limits reached → IsAcceptedAs files.plan files.limits p
-    → IsTable files.table runs → IsBookOf (accepted p) runs book → IsBookCovered files.plan reached book c
-    → IsCovered files c.text.items c.share
-covered_table files reached p runs book c reachable a t held told = record {
+    (found : RunsFound) → IsReachable files.plan files.limits reached → IsAcceptedAs files.plan files.limits p
+    → IsTable files.table runs → IsBookOf (accepted p) runs book → IsBookCovered files.plan reached book found
+    → IsCovered files found
+covered_table files reached p runs book found reachable a t held told = record {
   meaning = meaning p;
   runs = runs;
   has = record { accepted = a.accepted; read = t };
@@ -145,31 +144,36 @@ covered_table files reached p runs book c reachable a t held told = record {
 
 -- ---- the runs of a book
 
--- of the only plan of a book that is told
-pub only_plan : (file : List ℕ) (reached : BTreeSet StatementPlace) (book : Contents) (entries : List (Entry Seen)) (day : Day) (p : Seen)
-    (c : TableCoverage) → plans_in entries ≡ book.plans → entries ≡ (day, p) ∷ []
-    → TellsCoverage file (flowchart p) reached book c.text.items c.share → IsBookCovered file reached book c
-only_plan file reached book entries day p c held is told day' q has =
-    let same : ◌≡◌ {A = List (Entry Accepted)} ((day, accepted p) ∷ []) ((day', q) ∷ []) =
+-- the book of a table has a plan
+pub has_plan : (p : Accepted) (runs : List Record) (book : Contents) → IsBookOf p runs book → IsPlanned book
+has_plan p runs book held none =
+    let same : ◌≡◌ {A = List (Entry Accepted)} [] ((held.day, p) ∷ []) = sym none ∙ held.plans in absurd (cc same)
+
+-- what is found of the first plan of a book is found of its only one
+pub only_plan : (file : List ℕ) (reached : BTreeSet StatementPlace) (book : Contents) (entries rest : List (Entry Seen)) (day : Day)
+    (p : Seen) (found : RunsFound) → plans_in entries ≡ book.plans → entries ≡ (day, p) ∷ rest
+    → TellsCoverage file (flowchart p) reached book found → IsBookCovered file reached book found
+only_plan file reached book entries rest day p found held is told day' q has =
+    let same : ◌≡◌ {A = List (Entry Accepted)} ((day, accepted p) ∷ plans_in rest) ((day', q) ∷ []) =
     sym (ap (λ es. plans_in es) is) ∙ held ∙ has in
-    subst (λ (x : Accepted). TellsCoverage file x.meaning.flowchart reached book c.text.items c.share)
+    subst (λ (x : Accepted). TellsCoverage file x.meaning.flowchart reached book found)
     (ap (λ (es : List (Entry Accepted)). (get_or es 0 (day, accepted p)).1) same) told
 
 -- statements and exits with the lines of the file
 pub told_runs : (file : List ℕ) (f : Flowchart) (reached : BTreeSet StatementPlace) (book : Contents) (notes : Notes) (marks : List Mark)
-    (lines : FileLines) (methods methods' : List CoveredMethod) (made : Result TableCoverage AllocError) → HasNotes file notes
+    (lines : FileLines) (methods : List CoveredMethod) (made : Result RunsFound AllocError) → HasNotes file notes
     → marks ≡ notes.marks.items → lines ≡ lines_of_file file marks
-    → methods ≡ book_items f (record { lines = lines; reached = reached }) book → methods' ≡ methods
-    → IfOk made (λ c. TellsItems methods' book c.text.items c.share)
-    → IfOk made (λ c. TellsCoverage file f reached book c.text.items c.share)
-told_runs file f reached book notes marks lines methods methods' (Ok c) noted same are items given tells = record {
-  notes = notes;
-  noted = noted;
-  tells = subst (λ ms. TellsItems ms book c.text.items c.share)
-      (given ∙ items ∙ ap (λ l. book_items f (record { lines = l; reached = reached }) book) (are ∙ ap (λ ms. lines_of_file file ms) same))
-      tells;
-}
-told_runs file f reached book notes marks lines methods methods' (Err e) noted same are items given tells = tt
+    → methods ≡ book_items f (record { lines = lines; reached = reached }) book
+    → IfOk made (λ found. found ≡ found_with methods book) → IfOk made (λ found. TellsCoverage file f reached book found)
+told_runs file f reached book notes marks lines methods made noted same are items =
+    if_ok_map made (λ found. found ≡ found_with methods book) (λ found. TellsCoverage file f reached book found)
+    (λ found is. record {
+      notes = notes;
+      noted = noted;
+      tells =
+          is ∙ ap (λ ms. found_with ms book)
+          (items ∙ ap (λ l. book_items f (record { lines = l; reached = reached }) book) (are ∙ ap (λ ms. lines_of_file file ms) same));
+    })
 
 -- statements and exits of a flowchart, given how many statements its methods have
 pub items_covered : (f g : Flowchart) (known : KnownPlaces) (book : Contents) (listed listed' : List (List Listed)) (counts counts' : List ℕ)

@@ -23,6 +23,9 @@ use Rattle.run_coverage.specs.CoveredRuns.{book_traces}
 use Rattle.coverage_text.specs.CoverageItems.{CoveredMethod, method_counts, share_reached}
 use Rattle.coverage_text.specs.CoverageTexts.{coverage_text}
 use Rattle.coverage_text.specs.FlowchartItems.{KnownPlaces, flowchart_items}
+use Rattle.flowchart_methods.specs.Marks.{Marked}
+use Rattle.coverage_page.specs.CoverageMarks.{coverage_marks}
+use Rattle.coverage_page.specs.CoverageParts.{coverage_part}
 use Rattle.table_coverage.specs.declared.refusal.CoverRefusal.{CoverRefusal}
 use Rattle.table_coverage.specs.declared.refusal.CoverRefusal.TheVariants as refusals
 
@@ -56,22 +59,47 @@ statement_counts f = map length (listed_methods f)
 abbrev pub book_items : Flowchart → KnownPlaces → Contents → List CoveredMethod
 book_items f known book = flowchart_items f known (coverage_of f (statement_counts f) (book_traces book))
 
--- text and share tell of these statements and exits, and how many runs of a book have no amounts
-pub record TellsItems (methods : List CoveredMethod) (book : Contents) (text : List ℕ) (share : ℕ) : Type 0 where
-  pub written : text ≡ coverage_text methods (counted_of (month_rows book)).without (counted_of (month_rows book)).runs
-  pub counted : share ≡ share_reached (method_counts methods)
+-- what is found of runs: the statements and exits of their flowchart by method, each with how many runs came there, and how many of
+-- so many runs have no amounts
+pub record RunsFound : Type 0 where
+  pub methods : List CoveredMethod
+  pub without : ℕ
+  pub runs : ℕ
+
+-- these statements and exits, with how many runs of a book have no amounts
+abbrev pub found_with : List CoveredMethod → Contents → RunsFound
+found_with methods book = record {
+  methods = methods;
+  without = (counted_of (month_rows book)).without;
+  runs = (counted_of (month_rows book)).runs;
+}
+
+-- that as a text
+abbrev pub found_text : RunsFound → List ℕ
+found_text found = coverage_text found.methods found.without found.runs
+
+-- the share of what runs may come to that they came to, in whole percent
+abbrev pub found_share : RunsFound → ℕ
+found_share found = share_reached (method_counts found.methods)
+
+-- that as the part of a page that stands above the drawings
+abbrev pub found_part : RunsFound → List ℕ
+found_part found = coverage_part found.methods found.without found.runs
+
+-- how many runs came to each statement, as the drawings show it
+abbrev pub found_marks : RunsFound → List (List Marked)
+found_marks found = coverage_marks found.methods
 
 -- what is known of a flowchart's places: the lines of its file, and the statements to which a run may come
 abbrev pub places_in : List ℕ → Notes → BTreeSet StatementPlace → KnownPlaces
 places_in file notes reached = record { lines = lines_of_file file notes.marks.items; reached = reached }
 
--- text and share tell of the runs of a book, with the lines of the flowchart's file, where these are the statements to which a run
--- may come
-pub record TellsCoverage (file : List ℕ) (f : Flowchart) (reached : BTreeSet StatementPlace) (book : Contents) (text : List ℕ) (share : ℕ)
+-- this is found of the runs of a book, with the lines of the flowchart's file, where these are the statements to which a run may come
+pub record TellsCoverage (file : List ℕ) (f : Flowchart) (reached : BTreeSet StatementPlace) (book : Contents) (found : RunsFound)
     : Type 0 where
   pub notes : Notes
   pub noted : HasNotes file notes
-  pub tells : TellsItems (book_items f (places_in file notes reached) book) book text share
+  pub tells : found ≡ found_with (book_items f (places_in file notes reached) book) book
 
 -- ---- the answer
 
@@ -90,9 +118,8 @@ pub record HasTableRuns (files : CoverFiles) (m : Meaning) (runs : List Record) 
 abbrev pub accepted_plan : CoverFiles → Meaning → Accepted
 accepted_plan files m = record { plan = files.plan; limits = files.limits; meaning = m }
 
--- The plan is accepted, and the table read; text and share tell to what its runs came, of the statements to which a run within the
--- ranges may come.
-pub record IsCovered (files : CoverFiles) (text : List ℕ) (share : ℕ) : Type 0 where
+-- The plan is accepted, and the table read; this is found of its runs, of the statements to which a run within the ranges may come.
+pub record IsCovered (files : CoverFiles) (found : RunsFound) : Type 0 where
   pub meaning : Meaning
   pub runs : List Record
   pub has : HasTableRuns files meaning runs
@@ -100,7 +127,7 @@ pub record IsCovered (files : CoverFiles) (text : List ℕ) (share : ℕ) : Type
   pub held : IsBookOf (accepted_plan files meaning) runs book
   pub reached : BTreeSet StatementPlace
   pub are_reached : AreReached meaning.flowchart meaning.limits reached
-  pub told : TellsCoverage files.plan meaning.flowchart reached book text share
+  pub told : TellsCoverage files.plan meaning.flowchart reached book found
 
 -- the plan is accepted, and the table refused so
 pub record IsTableRefused (files : CoverFiles) (fault : TableFault) : Type 0 where

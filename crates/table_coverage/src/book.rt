@@ -4,7 +4,7 @@ ghost use Rattle.payroll_records.specs.Tables.{HaveOwnKeys};
 ghost use Rattle.book_edits.specs.Books.{loaded};
 ghost use Rattle.pay_run.specs.Accepted.{accepted};
 ghost use Rattle.table_coverage.specs.TableCoverages.{IsBookOf, IsFirstDay};
-ghost use Rattle.table_coverage.specs.private.Parts.{IsWithoutBook, load_stop};
+ghost use Rattle.table_coverage.specs.private.Parts.{IsMemoryFault, IsWithoutBook, load_stop};
 
 use crate::refusal::CoverRefusal;
 use book_edits::EditRefusal;
@@ -71,8 +71,17 @@ fn put_alone<L: Ledger>(
 {
     match book.put_plan(day, plan, steps) {
         Ok(_) => Ok(()),
-        // A book without plans has room for one.
-        Err(_) => Err(AllocError),
+        Err(why) => Err(memory_fault(why)),
+    }
+}
+
+/// The fault of a call that failed for lack of memory alone.
+fn memory_fault(why: EditRefusal) -> AllocError
+    requires { IsMemoryFault why }
+{
+    match why {
+        EditRefusal::Memory(error) => error,
+        _ => unreachable!(),
     }
 }
 

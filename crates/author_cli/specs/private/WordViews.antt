@@ -25,7 +25,7 @@ form_of (requests.Trace plan limits values) = traced plan.now limits.now values
 form_of (requests.Draw plan limits values) = drawn plan.now limits.now values
 form_of (requests.Example plan limits) = example plan.now limits.now
 form_of (requests.Lint plan limits) = linted plan.now limits.now
-form_of (requests.Cover plan limits table least) = covered plan.now limits.now table.now least
+form_of (requests.Cover medium plan limits table least) = covered (medium_of medium) plan.now limits.now table.now least
 
 -- `text`, a command, two names and some words
 abbrev pub text_words : List ℕ → List ℕ → List ℕ → List (List ℕ) → List (List ℕ)

@@ -12,7 +12,7 @@ use Rattle.flowchart_methods.specs.Turns.{StandInTurn}
 use Rattle.flowchart_page.specs.Declarations.{TableSource, IsDeclarationTable}
 use Rattle.flowchart_page.specs.Findings.{Finding, marked}
 use Rattle.flowchart_page.specs.Heads.{page_head}
-use Rattle.flowchart_page.specs.Runs.{RunParts, run_texts, run_marks}
+use Rattle.flowchart_page.specs.Runs.{RunParts, run_texts, run_marks, run_internals}
 use Rattle.flowchart_page.specs.Pages.{page_end, IsWholePage, AreTreeTexts, Shows}
 
 -- a page with this verdict, and this markup behind it
@@ -37,7 +37,8 @@ pub record ShowsRead (run : Option RunParts) (notes : Notes) (limits : Option Li
   pub site : Site
   pub names : named_statement site ≡ marked finding
   pub table : List (List ℕ)
-  pub is_table : IsDeclarationTable (record { notes = notes; limits = limits; finding = finding; site = site }) tree table
+  pub is_table : IsDeclarationTable
+      (record { notes = notes; limits = limits; finding = finding; internals = run_internals run; site = site }) tree table
   pub captions : List (List ℕ)
   pub are_captions : AreCaptions (marked finding) (run_marks run) (methods_of tree) captions
   pub whole : IsWholePage (verdict site) (run_texts run ++ (table ++ captions)) page

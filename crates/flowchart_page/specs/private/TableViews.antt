@@ -1,17 +1,22 @@
 -- The table of declarations as it is written, row by row.
-use Rattle.std.specs.Prelude.{◌≡◌, ℕ, Bool, List, ◌++◌, String}
+use Rattle.std.specs.Prelude.{◌≡◌, ℕ, Bool, List, ◌++◌, map, String}
 use Rattle.std.specs.declared.alloc.Global.{Global}
 use Rattle.pap_reader.specs.declared.element.Element.{Element}
 use Rattle.pap_reader.specs.Trees.{RawDeclaration, ElementTree}
 use Rattle.flowchart_methods.specs.Turns.{AddsInTurn}
 use Rattle.flowchart_page.specs.declared.declarations.Declarations.{Declarations}
-use Rattle.flowchart_page.specs.Declarations.{AreCells, IsRow, TableSource, is_named, AreRows, IsGroup, IsDeclarationTable}
-use Rattle.flowchart_page.specs.Ranges.{range_shown}
+use Rattle.flowchart_page.specs.Declarations.{AreCells, IsRow, TableSource, is_named, range_shown, AreRows, IsGroup, IsDeclarationTable}
 use Rattle.flowchart_page.specs.Judged.{finding_of}
 
 -- what the table shows of these
 abbrev pub source_of : Declarations → TableSource
-source_of d = record { notes = d.notes.now; limits = d.limits.now; finding = finding_of d.verdict.now; site = d.site.now }
+source_of d = record {
+  notes = d.notes.now;
+  limits = d.limits.now;
+  finding = finding_of d.verdict.now;
+  internals = map (λ t. t.items) d.internals.now;
+  site = d.site.now;
+}
 
 -- cells of a value, a range and comments are appended
 pub record AddsCells (text range : List ℕ) (comments : List (String Global)) (old new : List ℕ) : Type 0 where
@@ -28,7 +33,7 @@ pub record AddsRow (is_refused : Bool) (range : List ℕ) (comments : List (Stri
 -- the row of the declaration of a number among those of a kind is appended, with these comments
 abbrev pub AddsNamed : TableSource → Element → ℕ → List (String Global) → RawDeclaration → List ℕ → List ℕ → Type 0
 AddsNamed source element index comments d old new =
-    AddsRow (is_named source.site d.name) (range_shown element source.limits source.finding index d.name) comments d old new
+    AddsRow (is_named source.site d.name) (range_shown source element index d.name) comments d old new
 
 -- the rows of a kind are appended
 pub record AddsRows (source : TableSource) (element : Element) (ds : List RawDeclaration) (old new : List ℕ) : Type 0 where

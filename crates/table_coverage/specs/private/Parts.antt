@@ -1,5 +1,5 @@
 -- Parts of the answer.
-use Rattle.std.specs.Prelude.{◌≡◌, ◌<◌, ℕ, List, [], ◌∷◌, length, ⊤}
+use Rattle.std.specs.Prelude.{◌≡◌, ◌≢◌, ◌<◌, ℕ, List, [], ◌∷◌, length, ⊤}
 use Rattle.std.specs.BTreeSet.{BTreeSet}
 use Rattle.interval_analysis.specs.Surveys.{StatementPlace, AreReached}
 use Rattle.pap_plan.specs.Acceptance.{Meaning, IsAccepted}
@@ -12,8 +12,7 @@ use Rattle.book_edits.specs.declared.refusal.EditRefusal.TheVariants as edits
 use Rattle.recalc_engine.specs.Contents.{Contents}
 use Rattle.table_coverage.specs.declared.refusal.CoverRefusal.{CoverRefusal}
 use Rattle.table_coverage.specs.declared.refusal.CoverRefusal.TheVariants as refusals
-use Rattle.table_coverage.specs.declared.table.TableCoverage.{TableCoverage}
-use Rattle.table_coverage.specs.TableCoverages.{CoverFiles, TellsCoverage}
+use Rattle.table_coverage.specs.TableCoverages.{CoverFiles, RunsFound, TellsCoverage}
 
 -- three texts as the files that they are
 abbrev pub files_of : (plan limits table : List ℕ) → CoverFiles
@@ -24,10 +23,19 @@ abbrev pub IsReachable : List ℕ → List ℕ → BTreeSet StatementPlace → T
 IsReachable plan limits reached =
     (m : Meaning) → IsAccepted plan limits m → AreReached m.flowchart m.limits reached
 
--- what is told of a book that has one plan
-abbrev pub IsBookCovered : List ℕ → BTreeSet StatementPlace → Contents → TableCoverage → Type 0
-IsBookCovered file reached book c =
-    (day : Day) (p : Accepted) → book.plans ≡ (day, p) ∷ [] → TellsCoverage file p.meaning.flowchart reached book c.text.items c.share
+-- a book has a plan
+abbrev pub IsPlanned : Contents → Type 0
+IsPlanned book = book.plans ≢ []
+
+-- what is found of a book that has one plan
+abbrev pub IsBookCovered : List ℕ → BTreeSet StatementPlace → Contents → RunsFound → Type 0
+IsBookCovered file reached book found =
+    (day : Day) (p : Accepted) → book.plans ≡ (day, p) ∷ [] → TellsCoverage file p.meaning.flowchart reached book found
+
+-- a call failed for lack of memory alone
+abbrev pub IsMemoryFault : EditRefusal → Type 0
+IsMemoryFault (edits.Memory e) = ⊤
+IsMemoryFault why = ⊥
 
 -- why runs aren't loaded into a book without runs: memory ran out, or they are too many
 abbrev pub load_stop : EditRefusal → CoverRefusal

@@ -1,7 +1,7 @@
 use Rattle.std.proofs.Common.{◌≡◌, ◌++◌, false, sym, ap, ◌∙◌}
 use Rattle.std.specs.Prelude.{Some}
 use Rattle.chart_layout.specs.Drawn.{drawn}
-use Rattle.flowchart_methods.specs.declared.kind.MarkKind.TheVariants.{Nothing, Run, Told, Missed, Dead}
+use Rattle.flowchart_methods.specs.declared.kind.MarkKind.TheVariants.{Nothing, Run, Told, Came, Missed, Dead}
 use Rattle.flowchart_methods.specs.Captions.{placed_caption}
 use Rattle.flowchart_methods.proofs.TurnLemmas.{on_ok}
 use Rattle.flowchart_methods.proofs.statement.put_known.Goals as goal
@@ -50,6 +50,21 @@ returns-in-Told c =
     ∙ ap (λ n. page ++ placed_caption name condition known Told (drawn n false text)) c.from-number.ensures
     ∙ ap (λ w. page ++ placed_caption name w known Told (drawn c.args.number false text)) c.as_bytes.ensures.value
     ∙ ap (λ k. page ++ placed_caption name c.args.condition.now known k (drawn c.args.number false text)) (sym c.in-Told.is))
+
+pub returns-in-Came : goal.returns-in-Came
+returns-in-Came c =
+    let page = c.args.page.now in
+    let name = c.args.name.now in
+    let text = c.args.text.now in
+    let known = Some c.args.words.now in
+    let condition = c.as_bytes.result.now in
+    let new = c.put-in-Came.new.self in
+    on_ok c.put-in-Came.result (new ≡ page ++ placed_caption name condition known Came (drawn c.from-number.result false text))
+    (new ≡ page ++ placed_caption name c.args.condition.now known c.args.kind (drawn c.args.number false text)) c.put-in-Came.ensures
+    (λ e. e
+    ∙ ap (λ n. page ++ placed_caption name condition known Came (drawn n false text)) c.from-number.ensures
+    ∙ ap (λ w. page ++ placed_caption name w known Came (drawn c.args.number false text)) c.as_bytes.ensures.value
+    ∙ ap (λ k. page ++ placed_caption name c.args.condition.now known k (drawn c.args.number false text)) (sym c.in-Came.is))
 
 pub returns-in-Missed : goal.returns-in-Missed
 returns-in-Missed c =

@@ -7,9 +7,8 @@ pub returns : goal.returns
 returns c =
     let page = c.args.page.now in
     let num = codes "<td class=\"num\">" in
-    let range = c.as_bytes-2.result.now in
+    let range = c.args.range.now in
     cells_written c.args.value.now c.args.range.now c.args.comments.now page c.put.new.self c.write_comments.new.page
     (c.in_ok-put.ensures
-    ∙ ap (λ v. page ++ (num ++ (escaped v ++ (num ++ (escaped range ++ codes "<td>"))))) c.as_bytes.ensures.value
-    ∙ ap (λ r. page ++ (num ++ (escaped c.args.value.now ++ (num ++ (escaped r ++ codes "<td>"))))) c.as_bytes-2.ensures.value)
+    ∙ ap (λ v. page ++ (num ++ (escaped v ++ (num ++ (escaped range ++ codes "<td>"))))) c.as_bytes.ensures.value)
     c.in_ok-write_comments.ensures

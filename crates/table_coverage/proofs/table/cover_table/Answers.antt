@@ -1,6 +1,11 @@
+use Rattle.pay_run.specs.Accepted.{accepted}
 use Rattle.table_coverage.specs.private.Parts.{files_of}
-use Rattle.table_coverage.proofs.TableLemmas.{covered_table, table_refused}
+use Rattle.table_coverage.proofs.TableLemmas.{covered_table, table_refused, has_plan}
 use Rattle.table_coverage.proofs.table.cover_table.Goals as goal
+
+pub cover_held-requires : goal.cover_held-requires
+cover_held-requires c =
+    has_plan (accepted c.in_ok-accepted.accepted) c.in-Ok.runs.items c.in_ok-book-in-Ok.book c.in_ok-book-in-Ok.ensures.book
 
 pub returns-in-Ok-clause-covered : goal.returns-in-Ok-clause-covered
 returns-in-Ok-clause-covered c =

@@ -1,0 +1,2 @@
+pub mod CoverageMarks
+pub mod CoverageParts
