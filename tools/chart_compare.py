@@ -1,7 +1,9 @@
 """The page of a comparison against its text, on random flowcharts: part of check_chart.py.
 
 The page has a row for each line of the text, in order, with the same sign and the same texts; what changed has both texts in one row. Its
-contents count the rows of each part, and each link leads to a heading. There is no script, and nothing that is fetched."""
+contents count the rows of each part, and each link leads to a heading. There is no script, and nothing that is fetched. The comments that
+are told are those that stand more often in one file than in the other, found anew here."""
+import collections
 import os
 import random
 import re
@@ -45,7 +47,8 @@ class Page(HTMLParser):
         if tag == "i":
             self.lead, self.cell = self.cell.strip(), None
         elif tag in ("del", "ins", "code"):
-            self.lines.append((self.part, SIGNS[self.row], (self.lead + " " + self.cell).strip()))
+            lead = "comment " + self.lead if self.part == "comments" else self.lead
+            self.lines.append((self.part, SIGNS[self.row], (lead + " " + self.cell).strip()))
             self.cell = None
         elif tag == "span":
             self.counts[self.link], self.cell = self.cell, None
@@ -65,7 +68,7 @@ def text_lines(text):
         if line[1:7] == "      " and lines:
             lines[-1] = (lines[-1][0], lines[-1][1] + line[7:])
         else:
-            lines.append((line[0], line[2:]))
+            lines.append((line[0], line[2:].rstrip(" ")))
     return lines
 
 
@@ -92,6 +95,28 @@ def page_faults(text, page):
             faults.append("the contents count otherwise for %s: %s" % (link, words))
         if link == "declarations" and words != count_words(rows):
             faults.append("the contents count otherwise for the declarations: %s" % words)
+        if link == "comments" and words != count_words(rows).split(", ", 1)[1]:
+            faults.append("the contents count otherwise for the comments: %s" % words)
+    return faults
+
+
+def comments_of(plan):
+    """The comments of a plan, each with its line and its words."""
+    tokens = re.finditer(rb"<!--(.*?)-->|<(?:\"[^\"]*\"|'[^']*'|[^>\"'])*>", plan, re.DOTALL)
+    return [(plan.count(b"\n", 0, token.start()) + 1, " ".join(re.split("[\0-\x20\x7f-\xa0\u2028\u2029]+", token.group(1).decode("utf-8"))).strip(" "))
+            for token in tokens if token.group(1) is not None]
+
+
+def comment_faults(old, new, text):
+    """What a text tells otherwise of the comments of two plans."""
+    lines = [(line[0], *re.match("comment line ([0-9]+) (.*)", line[2:]).groups()) for line in text.split("\n") if line[2:].startswith("comment line ")]
+    faults = []
+    for sign, ours, others in (("-", comments_of(old), comments_of(new)), ("+", comments_of(new), comments_of(old))):
+        told = [(int(number), words) for row, number, words in lines if row == sign]
+        more = collections.Counter(words for _, words in ours) - collections.Counter(words for _, words in others)
+        left = iter(ours)
+        if collections.Counter(words for _, words in told) != more or not all(row in left for row in told):
+            faults.append("the comments with %s are others" % sign)
     return faults
 
 
@@ -106,7 +131,18 @@ def changed_plan(rng, plan):
         evals = re.findall(r"<EVAL exec=[^>]*/>", lines[at])
         one = rng.choice(evals)
         lines[at] = lines[at].replace(one, rng.choice(["", one + one, one.replace("=", "= 1 +", 2).replace("= 1 +", "=", 1)]), 1)
-    return "\n".join(lines).encode("utf-8")
+    return changed_comments(rng, "\n".join(lines)).encode("utf-8")
+
+
+def changed_comments(rng, text):
+    """The plan with some of its comments changed, left out, doubled or moved to its end."""
+    for _ in range(rng.randrange(4)):
+        found = re.findall("<!--.*?-->", text, re.DOTALL)
+        if not found:
+            break
+        one = rng.choice(found)
+        text = text.replace(one, rng.choice(["", one + one, "<!-- \u00dc & < " + one[4:], ""]), 1) + rng.choice(["", one])
+    return text
 
 
 def compared(binary, words):
@@ -130,6 +166,8 @@ def check_comparisons(binary, plans, seed):
             pages += 1
             text, page = text.stdout.decode("utf-8"), page.stdout.decode("utf-8")
             faults += page_faults(text, page)
+            with open(new, "rb") as file:
+                faults += comment_faults(plan, file.read(), text)
             for other in (page.replace("<ins>", "<ins>1", 1), page.replace('<tr class="new">', '<tr class="gone">', 1),
                           re.sub("<tr class.*?</tr>\n", "", page, count=1)):
                 if other != page:

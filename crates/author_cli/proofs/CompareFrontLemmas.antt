@@ -4,11 +4,13 @@ use Rattle.std.specs.Prelude.{Option, Some, IsSome}
 use Rattle.std.specs.Option.{ForSome}
 use Rattle.outside.specs.Told.{FileMap}
 use Rattle.plan_answers.specs.Fronts.{AreFronts, IsMissing}
+use Rattle.plan_answers.proofs.Laws.{whole}
+use Rattle.range_comparison.specs.Changes.{range_changes}
 use Rattle.plain_words.specs.Places.{PlanFiles}
 use Rattle.author_cli.specs.Words.{Medium, with_limits, compared}
 use Rattle.author_cli.specs.Answers.{Answer, file_of, Answers}
 use Rattle.author_cli.specs.CallClauses.{IsMissingOfPairs}
-use Rattle.author_cli.specs.Compared.{IsComparedWithin, IsRefusedPair, IsComparedPairs}
+use Rattle.author_cli.specs.Compared.{TellsComparison, IsComparedWithin, IsRefusedPair, IsComparedPairs}
 use Rattle.author_cli.specs.declared.compared_pairs.PairBytes.{PairBytes}
 use Rattle.author_cli.specs.private.PairViews.{AreFourFronts}
 use Rattle.author_cli.proofs.FrontLemmas.{refusal_front, bound_front}
@@ -28,7 +30,12 @@ module _ (n m : ℕ) (more_plan : 1048576 < n) (more_limits : 262144 < m) where
     new_ranges = h.new_ranges;
     old_bound = bound_front n m more_plan more_limits old.plan.bytes old.ranges.bytes h.old_plan h.old_ranges h.old_bound;
     new_bound = bound_front n m more_plan more_limits new.plan.bytes new.ranges.bytes h.new_plan h.new_ranges h.new_bound;
-    tells = h.tells;
+    tells = subst (λ b. TellsComparison medium old.plan (record { name = new.plan.name; bytes = b }) h.old_plan h.new_plan
+        (Some (range_changes h.old_ranges h.new_ranges)) text reason)
+        (whole 1048576 n new.plan.bytes more_plan h.new_bound.suited.named.file.ordered.typed.text.read.short)
+        (subst (λ b. TellsComparison medium (record { name = old.plan.name; bytes = b }) (front n new.plan) h.old_plan h.new_plan
+        (Some (range_changes h.old_ranges h.new_ranges)) text reason)
+        (whole 1048576 n old.plan.bytes more_plan h.old_bound.suited.named.file.ordered.typed.text.read.short) h.tells);
   }
 
   refused_pair_front : (files : PlanFiles) (text : List ℕ) (reason : Option (List ℕ)) → IsRefusedPair (fronts files) text reason

@@ -23,7 +23,7 @@ use Rattle.flowchart_page.specs.Findings.{Finding, accepted, in_order, refused, 
 use Rattle.flowchart_page.specs.Runs.{RunParts}
 use Rattle.flowchart_page.specs.Pages.{AreLimits, IsPlanTable, AreTreeTexts, ArePlanTexts, Says, Shows, IsRunPage, IsPage}
 use Rattle.author_cli.specs.Words.{Medium, two_plans, chart, chart_within, ranges, compared, traced, drawn, example, linted}
-use Rattle.author_cli.specs.Compared.{IsUnreadable, IsCompared}
+use Rattle.author_cli.specs.Compared.{TellsComparison, IsUnreadable, IsCompared}
 use Rattle.author_cli.specs.Drawn.{IsDrawnRun, IsDrawnBlocked, IsDrawnRefused, IsDrawn}
 use Rattle.author_cli.specs.Examples.{TellsSearch, IsUnsearched, IsExample}
 use Rattle.author_cli.specs.Linted.{TellsFindings, IsLinted}
@@ -280,7 +280,10 @@ module _ (n m : ℕ) (more_plan : 1048576 < n) (more_limits : 262144 < m) where
     new_plan = h.new_plan;
     old_read = plan_front old.bytes h.old_plan h.old_read;
     new_read = plan_front new.bytes h.new_plan h.new_read;
-    tells = h.tells;
+    tells = subst (λ b. TellsComparison medium old (record { name = new.name; bytes = b }) h.old_plan h.new_plan None text reason)
+        (whole 1048576 n new.bytes more_plan h.new_read.read.short)
+        (subst (λ b. TellsComparison medium (record { name = old.name; bytes = b }) (front n new) h.old_plan h.new_plan None text reason)
+        (whole 1048576 n old.bytes more_plan h.old_read.read.short) h.tells);
   })
   compared_front medium old new text reason (inr (inl h)) = inr (inl (unreadable_front old text reason h))
   compared_front medium old new text reason (inr (inr h)) = inr (inr (unreadable_front new text reason h))

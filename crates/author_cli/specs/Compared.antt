@@ -16,8 +16,10 @@ use Rattle.flowchart_page.specs.Verdicts.{files_with}
 use Rattle.flowchart_comparison.specs.Outlines.{TextOutline, outline_of}
 use Rattle.flowchart_comparison.specs.Comparisons.{TextComparison, IsComparison, differs}
 use Rattle.comparison_page.specs.Texts.{comparison_text}
+use Rattle.comment_comparison.specs.CommentChanges.{ComparedComments, IsCommentComparison}
 use Rattle.comparison_page.specs.RangeTexts.{range_changes_text}
-use Rattle.comparison_page.specs.Pages.{comparison_page, ranges_differ}
+use Rattle.comparison_page.specs.CommentTexts.{comment_changes_text}
+use Rattle.comparison_page.specs.Pages.{commented_page, ranges_differ}
 use Rattle.author_cli.specs.Traced.{IsRefusedAs}
 use Rattle.author_cli.specs.Words.{Medium, as_text, as_page}
 
@@ -33,19 +35,24 @@ abbrev pub ranges_text : Option (List RangeChange) → List ℕ
 ranges_text None = []
 ranges_text (Some changes) = range_changes_text changes
 
--- a comparison as it is written; only a page has the names of the files
+-- a comparison as it is written, with the comments that stand in one file alone behind all else; only a page has the names of the files
 abbrev pub comparison_in : Medium → (old_name new_name : List ℕ) → (old new : TextOutline) → TextComparison
-    → Option (List RangeChange) → List ℕ
-comparison_in as_text old_name new_name old new c ranges = comparison_text old new c ++ ranges_text ranges
-comparison_in as_page old_name new_name old new c ranges = comparison_page old_name new_name old new c ranges
+    → Option (List RangeChange) → ComparedComments → List ℕ
+comparison_in as_text old_name new_name old new c ranges comments =
+    comparison_text old new c ++ (ranges_text ranges ++ comment_changes_text comments)
+comparison_in as_page old_name new_name old new c ranges comments =
+    commented_page old_name new_name old new c ranges (Some comments)
 
--- the text is that of a comparison of these flowcharts, with these changes of range files where they are compared, and the words say
--- whether something differs
-pub record TellsComparison (medium : Medium) (old_name new_name : List ℕ) (old new : Flowchart) (ranges : Option (List RangeChange))
+-- the text is that of a comparison of these files, whose flowcharts these are, with the changes of range files where they are compared,
+-- and the words say whether something differs: comments don't count
+pub record TellsComparison (medium : Medium) (old_file new_file : NamedText) (old new : Flowchart) (ranges : Option (List RangeChange))
     (text : List ℕ) (reason : Option (List ℕ)) : Type 0 where
   pub comparison : TextComparison
   pub is : IsComparison (outline_of old) (outline_of new) comparison
-  pub written : text ≡ comparison_in medium old_name new_name (outline_of old) (outline_of new) comparison ranges
+  pub comments : ComparedComments
+  pub commented : IsCommentComparison old_file.bytes new_file.bytes comments
+  pub written : text
+      ≡ comparison_in medium old_file.name new_file.name (outline_of old) (outline_of new) comparison ranges comments
   pub said : reason ≡ difference_words (differs (outline_of old) (outline_of new) comparison) (ranges_differ ranges)
 
 -- both files are read as plans, and this is told of them
@@ -54,7 +61,7 @@ pub record IsComparedText (medium : Medium) (old new : NamedText) (text : List �
   pub new_plan : Flowchart
   pub old_read : IsPlan old.bytes old_plan
   pub new_read : IsPlan new.bytes new_plan
-  pub tells : TellsComparison medium old.name new.name old_plan new_plan None text reason
+  pub tells : TellsComparison medium old new old_plan new_plan None text reason
 
 -- the line of a file that isn't read as a plan, as `check` writes it, and the words that say why
 pub record IsUnreadable (plan : NamedText) (text : List ℕ) (reason : Option (List ℕ)) : Type 0 where
@@ -82,7 +89,7 @@ pub record IsComparedWithin (medium : Medium) (old new : PlanFiles) (text : List
   pub new_ranges : Limits
   pub old_bound : HasBindings old.plan.bytes old.ranges.bytes old_plan old_ranges
   pub new_bound : HasBindings new.plan.bytes new.ranges.bytes new_plan new_ranges
-  pub tells : TellsComparison medium old.plan.name new.plan.name old_plan new_plan (Some (range_changes old_ranges new_ranges)) text reason
+  pub tells : TellsComparison medium old.plan new.plan old_plan new_plan (Some (range_changes old_ranges new_ranges)) text reason
 
 -- the files of a pair are refused, and it is told how
 abbrev pub IsRefusedPair : PlanFiles → List ℕ → Option (List ℕ) → Type 0

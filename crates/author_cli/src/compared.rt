@@ -9,14 +9,17 @@ ghost use Rattle.plan_answers.specs.Fronts.{IsMissing};
 ghost use Rattle.plain_words.specs.Places.{named_text};
 ghost use Rattle.author_cli.specs.Ends.{words_of};
 ghost use Rattle.comparison_page.specs.Texts.{comparison_text};
+ghost use Rattle.comparison_page.specs.CommentTexts.{comment_changes_text};
 ghost use Rattle.author_cli.specs.Compared.{TellsComparison, IsComparedText, IsUnreadable, IsCompared, comparison_in, ranges_text, difference_words};
 ghost use Rattle.author_cli.specs.private.WordViews.{medium_of};
 ghost use Rattle.author_cli.specs.private.TwoFronts.{AreTwoFronts};
 
 use crate::answer::Answer;
 use crate::words::Medium;
+use comment_comparison::{CommentComparison, compare_comments};
 use comparison_page::{
-    FileNames, comparison_page, comparison_text, ranges_differ, write_range_changes,
+    FileNames, commented_page, comparison_text, ranges_differ, write_comment_changes,
+    write_range_changes,
 };
 use flowchart_comparison::{Comparison, Outline, compare, differs, read_outline};
 use outside::{FileAnswer, Files};
@@ -98,31 +101,47 @@ fn tell_plans(
     ensures { IfOk result (λ answer. IsComparedText (medium_of medium) (named_text old.entry)
         (named_text new.entry) answer.text.items (words_of answer.reason)) }
 {
+    tell_comparison(alloc, medium, old, old_plan, new, new_plan, None)
+}
+
+/// What is told of two plans beside the comparison of their flowcharts.
+#[derive(Clone, Copy)]
+struct Beside<'a> {
+    /// The changes of their range files, where these are compared.
+    ranges: Option<&'a [RangeChange]>,
+    /// Their comments.
+    comments: &'a CommentComparison,
+}
+
+/// The comparison of two plans and of the comments of their files, with the changes of their range files where these are compared.
+pub(crate) fn tell_comparison(
+    alloc: Global,
+    medium: Medium,
+    old: TextFile<'_>,
+    old_plan: &PlanText,
+    new: TextFile<'_>,
+    new_plan: &PlanText,
+    ranges: Option<&[RangeChange]>,
+) -> Result<Answer, AllocError>
+    ensures { IfOk result (λ answer. TellsComparison (medium_of medium)
+        (named_text old.entry) (named_text new.entry)
+        (flowchart_of old_plan.now) (flowchart_of new_plan.now)
+        (option_map (λ changes. changes.now) ranges.entry)
+        answer.text.items (words_of answer.reason)) }
+{
     let names = FileNames {
         old: old.name,
         new: new.name,
     };
-    tell_comparison(alloc, medium, names, old_plan, new_plan, None)
-}
-
-/// The comparison of two plans, with the changes of their range files where these are compared.
-pub(crate) fn tell_comparison(
-    alloc: Global,
-    medium: Medium,
-    names: FileNames<'_>,
-    old: &PlanText,
-    new: &PlanText,
-    ranges: Option<&[RangeChange]>,
-) -> Result<Answer, AllocError>
-    ensures { IfOk result (λ answer. TellsComparison (medium_of medium)
-        names.entry.old.now names.entry.new.now (flowchart_of old.now) (flowchart_of new.now)
-        (option_map (λ changes. changes.now) ranges.entry)
-        answer.text.items (words_of answer.reason)) }
-{
-    let old = read_outline(alloc, old)?;
-    let new = read_outline(alloc, new)?;
+    let comments = compare_comments(alloc, old.bytes, new.bytes)?;
+    let old = read_outline(alloc, old_plan)?;
+    let new = read_outline(alloc, new_plan)?;
     let comparison = compare(alloc, &old, &new)?;
-    let text = write_comparison(alloc, medium, names, &old, &new, &comparison, ranges)?;
+    let beside = Beside {
+        ranges,
+        comments: &comments,
+    };
+    let text = write_comparison(alloc, medium, names, &old, &new, &comparison, beside)?;
     let is_other = differs(&old, &new, &comparison);
     let reason = difference_words(alloc, is_other, ranges_differ(ranges))?;
     Ok(Answer { text, reason })
@@ -136,31 +155,35 @@ fn write_comparison(
     old: &Outline,
     new: &Outline,
     comparison: &Comparison,
-    ranges: Option<&[RangeChange]>,
+    beside: Beside<'_>,
 ) -> Result<Vec<u8>, AllocError>
     ensures { IfOk result (λ text. text.items ≡ comparison_in (medium_of medium)
         names.entry.old.now names.entry.new.now old.now new.now comparison.now
-        (option_map (λ changes. changes.now) ranges.entry)) }
+        (option_map (λ changes. changes.now) beside.entry.ranges) beside.entry.comments.now) }
 {
+    let (ranges, comments) = (beside.ranges, beside.comments);
     match medium {
-        Medium::Text => text_within(alloc, old, new, comparison, ranges),
-        Medium::Page => comparison_page(alloc, names, old, new, comparison, ranges),
+        Medium::Text => text_within(alloc, old, new, comparison, ranges, comments),
+        Medium::Page => commented_page(alloc, names, old, new, comparison, ranges, Some(comments)),
     }
 }
 
-/// A comparison as a text, with the changes of range files below it.
+/// A comparison as a text, with the changes of range files and of comments below it.
 fn text_within(
     alloc: Global,
     old: &Outline,
     new: &Outline,
     comparison: &Comparison,
     ranges: Option<&[RangeChange]>,
+    comments: &CommentComparison,
 ) -> Result<Vec<u8>, AllocError>
     ensures { IfOk result (λ text. text.items ≡ comparison_text old.now new.now comparison.now
-        ++ ranges_text (option_map (λ changes. changes.now) ranges.entry)) }
+        ++ (ranges_text (option_map (λ changes. changes.now) ranges.entry)
+        ++ comment_changes_text comments.now)) }
 {
     let mut text = comparison_text(alloc, old, new, comparison)?;
     write_ranges(alloc, &mut text, ranges)?;
+    write_comment_changes(alloc, &mut text, comments)?;
     Ok(text)
 }
 

@@ -13,7 +13,6 @@ use crate::answer::Answer;
 use crate::compared::tell_comparison;
 use crate::traced::answer_refused;
 use crate::words::Medium;
-use comparison_page::FileNames;
 use outside::{FileAnswer, Files};
 use pap_plan::{BoundPlan, PlanRefusal, read_bound};
 use plain_words::TextFile;
@@ -118,15 +117,12 @@ fn tell_pairs(
         (files_of_pair new.entry) answer.text.items (words_of answer.reason)) }
 {
     let changes = compare_ranges(alloc, &bound.limits, &other.limits)?;
-    let names = FileNames {
-        old: old.plan.name,
-        new: new.plan.name,
-    };
     tell_comparison(
         alloc,
         medium,
-        names,
+        old.plan,
         bound.typed.plan(),
+        new.plan,
         other.typed.plan(),
         Some(&changes),
     )

@@ -17,3 +17,8 @@ pub five_pieces : (a b c d e old p q r s new : List ℕ) → p ≡ old ++ a → 
     → new ≡ old ++ (a ++ (b ++ (c ++ (d ++ e))))
 five_pieces a b c d e old p q r s new is_p is_q is_r is_s is_new =
     one_before a (b ++ (c ++ (d ++ e))) old p new is_p (four_pieces b c d e p q r s new is_q is_r is_s is_new)
+
+pub six_pieces : (a b c d e f old p q r s t new : List ℕ) → p ≡ old ++ a → q ≡ p ++ b → r ≡ q ++ c → s ≡ r ++ d → t ≡ s ++ e
+    → new ≡ t ++ f → new ≡ old ++ (a ++ (b ++ (c ++ (d ++ (e ++ f)))))
+six_pieces a b c d e f old p q r s t new is_p is_q is_r is_s is_t is_new =
+    one_before a (b ++ (c ++ (d ++ (e ++ f)))) old p new is_p (five_pieces b c d e f p q r s t new is_q is_r is_s is_t is_new)

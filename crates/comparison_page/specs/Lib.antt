@@ -3,4 +3,7 @@ pub mod RangeTexts
 pub mod Cells
 pub mod Rows
 pub mod Counts
+pub mod Tables
+pub mod CommentTexts
+pub mod CommentParts
 pub mod Pages

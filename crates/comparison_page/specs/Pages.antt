@@ -10,35 +10,19 @@ use Rattle.flowchart_comparison.specs.Comparisons.{ComparedMethod, TextCompariso
 use Rattle.range_comparison.specs.declared.change.RangeChange.{RangeChange}
 use Rattle.page_frame.specs.Starts.{page_start}
 use Rattle.page_frame.specs.Styles.{style_sheet}
+use Rattle.comment_comparison.specs.CommentChanges.{ComparedComments}
 use Rattle.comparison_page.specs.Texts.{renamed}
 use Rattle.comparison_page.specs.Cells.{between_marks}
 use Rattle.comparison_page.specs.Rows.{declaration_row, line_row, range_row}
+use Rattle.comparison_page.specs.Tables.{change_table, part_end, link_end}
+use Rattle.comparison_page.specs.CommentParts.{comments_part, comments_link}
 use Rattle.comparison_page.specs.Counts.{entry_counts, range_counts, method_words}
-
--- ---- tables
-
--- how a table of changes begins
-abbrev pub table_start : List ℕ
-table_start =
-    codes "<table class=\"diff\"><thead><tr><th scope=\"col\">What<th scope=\"col\">Old<th scope=\"col\">New</tr></thead><tbody>\n"
-
--- how it ends
-abbrev pub table_end : List ℕ
-table_end = codes "</tbody></table>\n"
-
--- a table of these rows
-abbrev pub change_table : List ℕ → List ℕ
-change_table rows = table_start ++ (rows ++ table_end)
 
 -- ---- declarations and ranges
 
 -- how the part on declarations begins
 abbrev pub declarations_start : List ℕ
 declarations_start = codes "<section class=\"part\" id=\"declarations\"><h2>Declarations</h2>\n"
-
--- how a part ends
-abbrev pub part_end : List ℕ
-part_end = codes "</section>\n"
 
 -- what a page has of the declarations: a row for each entry
 abbrev pub declarations_part : (old new : List TextItem) → List Entry → List ℕ
@@ -116,10 +100,6 @@ abbrev pub contents_start : List ℕ
 contents_start =
     codes "<div class=\"cols\"><nav aria-labelledby=\"index\"><h2 id=\"index\">Contents</h2><ul>\n<li><a href=\"#declarations\">Declarations</a> <span>"
 
--- the end of an entry of the contents
-abbrev pub link_end : List ℕ
-link_end = codes "</span></li>\n"
-
 -- the entry of range files in the contents, where they are compared
 abbrev pub ranges_link : Option (List RangeChange) → List ℕ
 ranges_link None = []
@@ -157,16 +137,17 @@ compared_link old new m =
     sided_link m.method (option_and_then (slice_get old) (old_place m.method))
     (option_and_then (slice_get new) (new_place m.method)) m.lines
 
--- the contents: how much changed of the declarations, of range files where they are compared, of the methods, and of each of these
-abbrev pub contents : (old new : List LinedMethod) → TextComparison → Option (List RangeChange) → List ℕ
-contents old new c ranges =
+-- the contents: how much changed of the declarations, of range files where they are compared, of the methods, of each of these, and
+-- of comments where they are compared
+abbrev pub contents : (old new : List LinedMethod) → TextComparison → Option (List RangeChange) → Option ComparedComments → List ℕ
+contents old new c ranges comments =
     contents_start
     ++ (entry_counts c.declarations
     ++ (link_end
     ++ (ranges_link ranges
     ++ (methods_link_start
     ++ (entry_counts (map (λ m. m.method) c.methods)
-    ++ (link_end ++ (flat_map (compared_link old new) c.methods ++ contents_end)))))))
+    ++ (link_end ++ (flat_map (compared_link old new) c.methods ++ (comments_link comments ++ contents_end))))))))
 
 -- ---- the whole page
 
@@ -201,12 +182,18 @@ difference_sentence true true = codes "<p class=\"differs\">The flowcharts and t
 abbrev pub comparison_end : List ℕ
 comparison_end = codes "</main></div></body></html>\n"
 
--- the page of the comparison of two flowcharts, and of two range files, where these are compared: of each entry one row, with its
--- sign, its word and its texts
-abbrev pub comparison_page : (old_name new_name : List ℕ) → (old new : TextOutline) → TextComparison → Option (List RangeChange) → List ℕ
-comparison_page old_name new_name old new c ranges =
+-- the page of the comparison of two flowcharts, of two range files and of the comments of both files, where these are compared: of each
+-- entry one row, with its sign, its word and its texts
+abbrev pub commented_page : (old_name new_name : List ℕ) → (old new : TextOutline) → TextComparison → Option (List RangeChange)
+    → Option ComparedComments → List ℕ
+commented_page old_name new_name old new c ranges comments =
     comparison_head old_name new_name
     ++ (difference_sentence (differs old new c) (ranges_differ ranges)
-    ++ (contents old.methods new.methods c ranges
+    ++ (contents old.methods new.methods c ranges comments
     ++ (declarations_part old.declarations new.declarations c.declarations
-    ++ (ranges_part ranges ++ (methods_part old.methods new.methods c.methods ++ comparison_end)))))
+    ++ (ranges_part ranges
+    ++ (methods_part old.methods new.methods c.methods ++ (comments_part comments ++ comparison_end))))))
+
+-- the same without comments
+abbrev pub comparison_page : (old_name new_name : List ℕ) → (old new : TextOutline) → TextComparison → Option (List RangeChange) → List ℕ
+comparison_page old_name new_name old new c ranges = commented_page old_name new_name old new c ranges None

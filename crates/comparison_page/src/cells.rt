@@ -15,16 +15,16 @@ const SAME_START: &str = "<tr class=\"same\"><th scope=\"row\">= same";
 const CHANGED_START: &str = "<tr class=\"changed\"><th scope=\"row\">~ changed";
 
 /// How the row of what is gone begins.
-const GONE_START: &str = "<tr class=\"gone\"><th scope=\"row\">- gone";
+pub(crate) const GONE_START: &str = "<tr class=\"gone\"><th scope=\"row\">- gone";
 
 /// How the row of what is new begins.
-const NEW_START: &str = "<tr class=\"new\"><th scope=\"row\">+ new<td>";
+pub(crate) const NEW_START: &str = "<tr class=\"new\"><th scope=\"row\">+ new<td>";
 
 /// How a row ends.
-const ROW_END: &str = "</tr>\n";
+pub(crate) const ROW_END: &str = "</tr>\n";
 
 /// How the row of what is gone ends.
-const GONE_END: &str = "<td></tr>\n";
+pub(crate) const GONE_END: &str = "<td></tr>\n";
 
 /// The side on which a text stands.
 #[derive(Clone, Copy)]

@@ -6,9 +6,11 @@ ghost use Rattle.comparison_page.specs.Counts.{entry_counts};
 ghost use Rattle.comparison_page.specs.Pages.{contents, ranges_link, link_start, method_link, sided_link, compared_link};
 
 use crate::cells::push_own;
+use crate::comments::write_comments_link;
 use crate::counts::{entry_counts, method_words, range_counts};
 use crate::parts::anchor;
 use crate::text::method_at;
+use comment_comparison::CommentComparison;
 use flowchart_comparison::{Comparison, Entry, MethodComparison, MethodOutline};
 use pap_tree::Name;
 use range_comparison::RangeChange;
@@ -29,10 +31,12 @@ pub(crate) fn write_contents(
     new: &[MethodOutline],
     comparison: &Comparison,
     ranges: Option<&[RangeChange]>,
+    comments: Option<&CommentComparison>,
 ) -> Result<(), AllocError>
     ensures { OnOk result (page.new.items ≡ page.old.items
         ++ contents old.now new.now comparison.now
-        (option_map (λ changes. changes.now) ranges.entry)) }
+        (option_map (λ changes. changes.now) ranges.entry)
+        (option_map (λ c. c.now) comments.entry)) }
 {
     push_own(page, CONTENTS_START)?;
     write_declaration_counts(alloc, page, comparison)?;
@@ -42,6 +46,7 @@ pub(crate) fn write_contents(
     write_method_counts(alloc, page, comparison)?;
     push_own(page, LINK_END)?;
     write_compared_links(alloc, page, old, new, comparison)?;
+    write_comments_link(alloc, page, comments)?;
     push_own(page, "</ul></nav><main id=\"changes\">\n")?;
     Ok(())
 }

@@ -2,6 +2,8 @@
 #![tactic(auto)]
 
 mod cells;
+mod comment_text;
+mod comments;
 mod contents;
 mod counts;
 mod lines;
@@ -11,6 +13,7 @@ mod ranges;
 mod rows;
 mod text;
 
-pub use page::{FileNames, comparison_page, ranges_differ};
+pub use comment_text::write_comment_changes;
+pub use page::{FileNames, commented_page, comparison_page, ranges_differ};
 pub use ranges::write_range_changes;
 pub use text::comparison_text;

@@ -2,12 +2,14 @@
 ghost use Rattle.std.specs.Prelude.{◌≡◌, ◌++◌, IfOk, OnOk};
 ghost use Rattle.std.specs.Option.{option_map};
 ghost use Rattle.comparison_page.specs.Cells.{between_marks};
-ghost use Rattle.comparison_page.specs.Pages.{comparison_page, comparison_head, ranges_differ, difference_sentence, contents, declarations_part, methods_part};
+ghost use Rattle.comparison_page.specs.Pages.{comparison_page, commented_page, comparison_head, ranges_differ, difference_sentence, contents, declarations_part, methods_part};
 ghost use Rattle.flowchart_comparison.specs.Comparisons.{differs};
 
 use crate::cells::{push_between, push_own};
+use crate::comments::write_comments_part;
 use crate::contents::write_contents;
 use crate::parts::{write_declarations_part, write_methods_part, write_ranges_part};
+use comment_comparison::CommentComparison;
 use flowchart_comparison::{Comparison, Outline, differs};
 use page_frame::{page_start, style_sheet};
 use range_comparison::RangeChange;
@@ -41,33 +43,35 @@ pub fn comparison_page(
         ≡ comparison_page names.entry.old.now names.entry.new.now old.now new.now comparison.now
         (option_map (λ changes. changes.now) ranges.entry)) }
 {
-    let mut page = Vec::new(alloc);
-    write_page(alloc, &mut page, names, old, new, comparison, ranges)?;
-    Ok(page)
+    commented_page(alloc, names, old, new, comparison, ranges, None)
 }
 
-/// Appends the page of a comparison.
-fn write_page(
+/// The same, and behind the methods the comments of both files that stand in one alone, where these are compared: a row for each,
+/// with the line on which it begins.
+pub fn commented_page(
     alloc: Global,
-    page: &mut Vec<u8>,
     names: FileNames<'_>,
     old: &Outline,
     new: &Outline,
     comparison: &Comparison,
     ranges: Option<&[RangeChange]>,
-) -> Result<(), AllocError>
-    ensures { OnOk result (page.new.items ≡ page.old.items
-        ++ comparison_page names.entry.old.now names.entry.new.now old.now new.now comparison.now
-        (option_map (λ changes. changes.now) ranges.entry)) }
+    comments: Option<&CommentComparison>,
+) -> Result<Vec<u8>, AllocError>
+    ensures { IfOk result (λ page. page.items
+        ≡ commented_page names.entry.old.now names.entry.new.now old.now new.now comparison.now
+        (option_map (λ changes. changes.now) ranges.entry)
+        (option_map (λ c. c.now) comments.entry)) }
 {
-    write_head(page, names)?;
-    write_sentence(page, old, new, comparison, ranges)?;
-    write_all_contents(alloc, page, old, new, comparison, ranges)?;
-    write_all_declarations(alloc, page, old, new, comparison)?;
-    write_ranges_part(alloc, page, ranges)?;
-    write_all_methods(alloc, page, old, new, comparison)?;
-    push_own(page, "</main></div></body></html>\n")?;
-    Ok(())
+    let mut page = Vec::new(alloc);
+    write_head(&mut page, names)?;
+    write_sentence(&mut page, old, new, comparison, ranges)?;
+    write_all_contents(alloc, &mut page, old, new, comparison, ranges, comments)?;
+    write_all_declarations(alloc, &mut page, old, new, comparison)?;
+    write_ranges_part(alloc, &mut page, ranges)?;
+    write_all_methods(alloc, &mut page, old, new, comparison)?;
+    write_comments_part(alloc, &mut page, comments)?;
+    push_own(&mut page, "</main></div></body></html>\n")?;
+    Ok(page)
 }
 
 /// Appends what a page says on the whole.
@@ -95,13 +99,15 @@ fn write_all_contents(
     new: &Outline,
     comparison: &Comparison,
     ranges: Option<&[RangeChange]>,
+    comments: Option<&CommentComparison>,
 ) -> Result<(), AllocError>
     ensures { OnOk result (page.new.items ≡ page.old.items
         ++ contents old.now.methods new.now.methods comparison.now
-        (option_map (λ changes. changes.now) ranges.entry)) }
+        (option_map (λ changes. changes.now) ranges.entry)
+        (option_map (λ c. c.now) comments.entry)) }
 {
     let (old, new) = (old.methods(), new.methods());
-    write_contents(alloc, page, old, new, comparison, ranges)
+    write_contents(alloc, page, old, new, comparison, ranges, comments)
 }
 
 /// Appends what a page has of the declarations.

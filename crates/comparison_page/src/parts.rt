@@ -3,7 +3,8 @@ ghost use Rattle.std.specs.Prelude.{◌≡◌, ◌++◌, IfOk, OnOk, Some, strin
 ghost use Rattle.std.specs.List.{flat_map};
 ghost use Rattle.std.specs.Option.{option_map};
 ghost use Rattle.comparison_page.specs.Rows.{declaration_row, line_row, range_row};
-ghost use Rattle.comparison_page.specs.Pages.{declarations_part, change_table, range_table, ranges_part, anchor, method_start, fold_start, fold_end, method_part, sided_part, compared_part, methods_part};
+ghost use Rattle.comparison_page.specs.Tables.{change_table};
+ghost use Rattle.comparison_page.specs.Pages.{declarations_part, range_table, ranges_part, anchor, method_start, fold_start, fold_end, method_part, sided_part, compared_part, methods_part};
 
 use crate::cells::push_own;
 use crate::counts::method_words;
@@ -15,14 +16,14 @@ use range_comparison::RangeChange;
 use std::alloc::{AllocError, Global};
 
 /// How a table of changes begins.
-const TABLE_START: &str =
+pub(crate) const TABLE_START: &str =
     "<table class=\"diff\"><thead><tr><th scope=\"col\">What<th scope=\"col\">Old<th scope=\"col\">New</tr></thead><tbody>\n";
 
 /// How it ends.
-const TABLE_END: &str = "</tbody></table>\n";
+pub(crate) const TABLE_END: &str = "</tbody></table>\n";
 
 /// How a part ends.
-const PART_END: &str = "</section>\n";
+pub(crate) const PART_END: &str = "</section>\n";
 
 /// Appends what a page has of the declarations.
 pub(crate) fn write_declarations_part(

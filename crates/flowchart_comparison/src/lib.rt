@@ -14,6 +14,7 @@ mod pairing;
 mod proposals;
 mod statements;
 
+pub use alignment::align;
 pub use comparison::{Comparison, MethodComparison, compare, differs};
 pub use entry::Entry;
 pub use item::Item;

@@ -21,8 +21,8 @@ impl Model for Line {
 }
 
 impl Line {
-    /// The line of the statement of a number.
-    pub(crate) fn statement(number: usize, text: Vec<u8>) -> Line
+    /// The line of the statement of a number. Other texts are aligned as such lines too, each by its number among them.
+    pub fn statement(number: usize, text: Vec<u8>) -> Line
         ensures { result ≡ statement number text.items }
     {
         Line {

@@ -16,7 +16,7 @@ returns c =
     let p = flowchart_of c.args.old_plan.now in
     let q = flowchart_of c.args.new_plan.now in
     if_ok_map c.tell_comparison.result
-    (λ answer. TellsComparison m old.name new.name p q None answer.text.items (words_of answer.reason))
+    (λ answer. TellsComparison m old new p q None answer.text.items (words_of answer.reason))
     (λ answer. IsComparedText m old new answer.text.items (words_of answer.reason))
     (λ answer h. compared_text m old new answer.text.items (words_of answer.reason) p q c.requires.old_read c.requires.new_read h)
     c.tell_comparison.ensures

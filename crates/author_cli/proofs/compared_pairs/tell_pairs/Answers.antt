@@ -25,7 +25,7 @@ returns c =
     let new_bound = subst (λ t. HasBindings new.plan.bytes new.ranges.bytes (flowchart_of t) k) (sym c.plan-2.ensures.text)
     c.requires.new_bound.passed in
     if_ok_map c.tell_comparison.result
-    (λ answer. TellsComparison m old.plan.name new.plan.name p q (Some changes) answer.text.items (words_of answer.reason))
+    (λ answer. TellsComparison m old.plan new.plan p q (Some changes) answer.text.items (words_of answer.reason))
     (λ answer. IsComparedWithin m old new answer.text.items (words_of answer.reason))
     (λ answer h. compared_within m old new answer.text.items (words_of answer.reason) p q l k changes old_bound new_bound
     (c.deref.ensures.value ∙ c.in_ok-changes.ensures) h) c.tell_comparison.ensures

@@ -1,6 +1,7 @@
 use Rattle.std.specs.List.{flat_map}
 use Rattle.comparison_page.specs.Rows.{declaration_row}
-use Rattle.comparison_page.specs.Pages.{change_table, declarations_start, part_end}
+use Rattle.comparison_page.specs.Tables.{change_table, part_end}
+use Rattle.comparison_page.specs.Pages.{declarations_start}
 use Rattle.comparison_page.proofs.PieceLemmas.{three_pieces}
 use Rattle.comparison_page.proofs.parts.write_declarations_part.Goals as goal
 

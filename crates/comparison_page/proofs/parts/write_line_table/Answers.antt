@@ -1,6 +1,6 @@
 use Rattle.std.specs.List.{flat_map}
 use Rattle.comparison_page.specs.Rows.{line_row}
-use Rattle.comparison_page.specs.Pages.{table_start, table_end}
+use Rattle.comparison_page.specs.Tables.{table_start, table_end}
 use Rattle.comparison_page.proofs.PieceLemmas.{three_pieces}
 use Rattle.comparison_page.proofs.parts.write_line_table.Goals as goal
 

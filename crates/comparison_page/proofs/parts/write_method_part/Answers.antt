@@ -1,7 +1,8 @@
 use Rattle.std.proofs.Common.{◌++◌, ap, ◌∙◌}
 use Rattle.std.specs.List.{flat_map}
 use Rattle.comparison_page.specs.Rows.{line_row}
-use Rattle.comparison_page.specs.Pages.{change_table, method_start, fold_start, fold_end, part_end}
+use Rattle.comparison_page.specs.Tables.{change_table, part_end}
+use Rattle.comparison_page.specs.Pages.{method_start, fold_start, fold_end}
 use Rattle.comparison_page.proofs.PieceLemmas.{five_pieces}
 use Rattle.comparison_page.proofs.parts.write_method_part.Goals as goal
 

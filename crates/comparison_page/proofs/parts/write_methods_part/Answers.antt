@@ -1,5 +1,6 @@
 use Rattle.std.specs.List.{flat_map}
-use Rattle.comparison_page.specs.Pages.{compared_part, methods_start, part_end}
+use Rattle.comparison_page.specs.Tables.{part_end}
+use Rattle.comparison_page.specs.Pages.{compared_part, methods_start}
 use Rattle.comparison_page.proofs.PieceLemmas.{three_pieces}
 use Rattle.comparison_page.proofs.parts.write_methods_part.Goals as goal
 

@@ -1,4 +1,5 @@
-use Rattle.comparison_page.specs.Pages.{range_table, ranges_start, part_end}
+use Rattle.comparison_page.specs.Tables.{part_end}
+use Rattle.comparison_page.specs.Pages.{range_table, ranges_start}
 use Rattle.comparison_page.proofs.PieceLemmas.{three_pieces}
 use Rattle.comparison_page.proofs.parts.write_range_part.Goals as goal
 

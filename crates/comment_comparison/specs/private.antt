@@ -1,0 +1,2 @@
+pub mod CommentScans
+pub mod Tallies
