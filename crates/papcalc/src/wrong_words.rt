@@ -11,7 +11,10 @@ pub fn what_is_wrong(alloc: Global, words: &[String]) -> Result<Option<String>, 
         return Ok(None);
     };
     let said = match command.as_str() {
-        "check" => wrong_files(alloc, rest)?,
+        "check" => {
+            let count = rest.len();
+            format!(in alloc; "`check` takes two words, PLAN and LIMITS, and not {count}")?
+        }
         "once" if rest.len() < 2 => {
             format!(in alloc; "`once` takes the words PLAN and LIMITS, and then values")?
         }
@@ -19,10 +22,9 @@ pub fn what_is_wrong(alloc: Global, words: &[String]) -> Result<Option<String>, 
         "run" | "save" => format!(in alloc;
             "`{command}` reads its script from standard input, as papcalc {command} < SCRIPT, and takes no word behind it"
         )?,
-        "sample" => wrong_count(alloc, rest)?,
-        "--help" | "-h" | "help" | "--version" | "-V" => {
-            format!(in alloc; "`{command}` stands alone, without a word behind it")?
-        }
+        "sample" => format!(in alloc;
+            "`sample` takes one number of employees, 1 to 200, without a sign or zeros before it"
+        )?,
         _ => {
             let shown = one_line(alloc, command)?;
             format!(in alloc;
@@ -31,37 +33,6 @@ pub fn what_is_wrong(alloc: Global, words: &[String]) -> Result<Option<String>, 
         }
     };
     Ok(Some(said))
-}
-
-/// Why the words behind `check` aren't the names of two files.
-fn wrong_files(alloc: Global, words: &[String]) -> Result<String, AllocError> {
-    let count = words.len();
-    let Some(third) = words.get(2) else {
-        return format!(in alloc; "`check` takes two words, PLAN and LIMITS, and not {count}");
-    };
-    let shown = one_line(alloc, third)?;
-    let values = if third.contains('=') {
-        "; `once` takes values"
-    } else {
-        ""
-    };
-    format!(in alloc;
-        "`check` takes two words, PLAN and LIMITS, and not {count}: `{shown}` is one too many{values}"
-    )
-}
-
-/// Why the words behind `sample` aren't a number of employees.
-fn wrong_count(alloc: Global, words: &[String]) -> Result<String, AllocError> {
-    let [word] = words else {
-        let count = words.len();
-        return format!(in alloc;
-            "`sample` takes one word, the number of employees, 1 to 200, and not {count}"
-        );
-    };
-    let shown = one_line(alloc, word)?;
-    format!(in alloc;
-        "`sample` takes a number of employees, 1 to 200, without a sign or zeros before it, and not `{shown}`"
-    )
 }
 
 /// Which of the values of `once` is wrong, and why.
@@ -81,10 +52,9 @@ fn wrong_value(alloc: Global, values: &[String]) -> Result<Option<String>, Alloc
         match read.insert(value) {
             Ok(()) => {}
             Err(InsertFault::Twice) => {
-                let name = value.name;
                 let shown = one_line(alloc, word)?;
                 let said = format!(in alloc;
-                    "{name} stands twice, again in `{shown}`; give each name once"
+                    "a value stands under the name of `{shown}` already; give each name once"
                 )?;
                 return Ok(Some(said));
             }
