@@ -1,15 +1,15 @@
 #!/usr/bin/env python3
 """The deepest flowchart on a small stack: deep_trials.py PROGRAM.
 
-64 methods, each of which executes the next within 32 IFs, and in the last one an expression of 64 open levels. With less than the usual
-stack (7 MiB of 8) the program checks it, runs it once, traces it, and explains a refusal at its bottom."""
+64 methods, each of which executes the next within 32 IFs, and in the last one an expression of 64 open levels. With half of the usual
+stack (4 MiB) the program checks it, runs it once, traces it, and explains a refusal at its bottom."""
 import os
 import resource
 import subprocess
 import sys
 import tempfile
 
-STACK = 7 << 20
+STACK = 4 << 20
 METHODS, IFS, LEVELS = 64, 32, 64
 HEAD = """<PAP><INTERFACE><INPUTS><INPUT name="N" type="int"/></INPUTS><OUTPUTS><OUTPUT name="K" type="int"/></OUTPUTS></INTERFACE>
 <METHODS><MAIN><EXECUTE method="M0"/></MAIN>

@@ -16,10 +16,12 @@ use Rattle.interval_walk.specs.Ranged.{ranged, tested}
 use Rattle.interval_analysis.specs.declared.expressions.Walk.{Walk}
 use Rattle.interval_analysis.specs.declared.stop.WalkStop.{WalkStop}
 use Rattle.interval_analysis.specs.declared.stop.WalkStop.TheVariants as walks
+use Rattle.interval_analysis.specs.private.StopViews.{FaultOf, StopsAt, IsBehindLists}
+use Rattle.interval_analysis.proofs.StopLemmas.{fault_through}
 use Rattle.pap_types.specs.private.ScopeViews.{scope_in, variables_in}
 use Rattle.interval_analysis.specs.private.PlanViews.{IsSized, ranges_after, with_names, ranges_in, branches_in}
 use Rattle.pap_tree.specs.private.TreeViews.{if_of}
-use Rattle.interval_analysis.specs.private.StatementViews.{through_if, through_fork, end_of, fault_of}
+use Rattle.interval_analysis.specs.private.StatementViews.{through_body, through_if, through_fork, end_of}
 use Rattle.pap_tree.specs.declared.expression.Expr.{Expr}
 use Rattle.interval_analysis.specs.declared.branches.Branches.{Branches}
 use Rattle.interval_analysis.specs.declared.expressions.Stop.{Stop}
@@ -33,7 +35,7 @@ use Rattle.interval_num.specs.declared.cause.RangeCause.{RangeCause}
 use Rattle.interval_num.specs.Intervals.{Interval}
 use Rattle.interval_analysis.specs.declared.statements.Fork.{Fork}
 use Rattle.interval_analysis.specs.declared.statements.Spot.{Spot}
-use Rattle.interval_analysis.specs.private.StatementViews.{calls_in, walked_in, met_in, forked_in, first_spot, second_spot, joined_lists, FaultOf, EnvAnswer, Passage, Passes}
+use Rattle.interval_analysis.specs.private.StatementViews.{calls_in, walked_in, met_in, forked_in, first_spot, second_spot, joined_lists, EnvAnswer, Passage, Passes}
 use Rattle.interval_walk.specs.Walked.{RangeCalls, walked, range_calls_of, with_body, joined}
 
 assoc : {A B C E : Type 0} (r : Result A E) (f : A → Result B E) (g : B → Result C E) → and_then r (λ a. and_then (f a) g) ≡ and_then (and_then r f) g
@@ -92,17 +94,13 @@ module _ (w : Walk) (spot : Spot) where
 
   -- a statement that stops
   pub step_stops : (s : Stmt) (rest : Body) (rs : List Interval) (f : WalkStop) → FaultOf (walked_in w spot (stmt_then s done) rs) f → FaultOf (walked_in w spot (stmt_then s rest) rs) f
-  step_stops s rest rs (walks.At p c) h =
+  step_stops s rest rs f h =
+      let first = walked_in w spot (stmt_then s done) rs in
+      fault_through first (walked_in w spot (stmt_then s rest) rs) f
+      (λ e is.
       walked_then (scope_in w.plan.now) (calls_in w spot.chain) spot.method s rest spot.at (ranges_in w.plan.now rs)
-      ∙ ap (λ q. and_then q (walked (scope_in w.plan.now) (calls_in w spot.chain) spot.method (spot.at + written (stmt_then s done)) rest)) h
-  step_stops s rest rs (walks.AtOne p c x) h =
-      walked_then (scope_in w.plan.now) (calls_in w spot.chain) spot.method s rest spot.at (ranges_in w.plan.now rs)
-      ∙ ap (λ q. and_then q (walked (scope_in w.plan.now) (calls_in w spot.chain) spot.method (spot.at + written (stmt_then s done)) rest)) h
-  step_stops s rest rs (walks.AtTwo p c x y) h =
-      walked_then (scope_in w.plan.now) (calls_in w spot.chain) spot.method s rest spot.at (ranges_in w.plan.now rs)
-      ∙ ap (λ q. and_then q (walked (scope_in w.plan.now) (calls_in w spot.chain) spot.method (spot.at + written (stmt_then s done)) rest)) h
-  step_stops s rest rs (walks.Output x) h = absurd h
-  step_stops s rest rs walks.Memory h = tt
+      ∙ ap (λ q. and_then q (walked (scope_in w.plan.now) (calls_in w spot.chain) spot.method (spot.at + written (stmt_then s done)) rest)) is)
+      h
 
 -- a fault of a result that is the same
 pub fault_as : (r q : Result Ranges WalkFault) (f : WalkStop) → r ≡ q → FaultOf q f → FaultOf r f
@@ -110,11 +108,7 @@ fault_as r q f e h = subst (λ x. FaultOf x f) (sym e) h
 
 -- a fault of what comes first
 pub fault_first : (r : Result Ranges WalkFault) (go : Ranges → Result Ranges WalkFault) (f : WalkStop) → FaultOf r f → FaultOf (and_then r go) f
-fault_first r go (walks.At p c) h = ap (λ q. and_then q go) h
-fault_first r go (walks.AtOne p c x) h = ap (λ q. and_then q go) h
-fault_first r go (walks.AtTwo p c x y) h = ap (λ q. and_then q go) h
-fault_first r go (walks.Output x) h = absurd h
-fault_first r go walks.Memory h = tt
+fault_first r go f h = fault_through r (and_then r go) f (λ e is. ap (λ q. and_then q go) is) h
 
 -- ---- what functions answer
 
@@ -171,6 +165,12 @@ second_stops w spot f rs ss xs fault first h =
     (ap (λ q. and_then q (λ x. and_then last (meet x))) first)
     (fault_first last (meet (ranges_in w.plan.now xs)) fault h)
 
+-- the first list stops
+first_stops : (w : Walk) (spot : Spot) (f : Fork) (rs ss : List Interval) (fault : WalkStop) → FaultOf (walked_in w (first_spot spot) (body_of f.yes.now) rs) fault → FaultOf (met_in w spot f rs ss) fault
+first_stops w spot f rs ss fault h =
+    fault_first (walked_in w (first_spot spot) (body_of f.yes.now) rs)
+    (λ x. and_then (walked_in w (second_spot spot f) (body_of f.no.now) ss) (λ y. at_stmt spot.method spot.at (at_node f.root [] (joined x y)))) fault h
+
 -- both lists pass: the ranges behind them are joined, whichever was walked last
 module _ (w : Walk) (spot : Spot) (f : Fork) (second : ℕ) (rs ss xs ys : List Interval) (first_sized : IsSized w.plan.now xs) (second_sized : IsSized w.plan.now ys) (number : second ≡ spot.at + 1 + written (body_of f.yes.now))
     (first : walked_in w (first_spot spot) (body_of f.yes.now) rs ≡ Ok (ranges_in w.plan.now xs)) (last : walked_in w (record spot { at = second }) (body_of f.no.now) ss ≡ Ok (ranges_in w.plan.now ys)) where
@@ -182,7 +182,7 @@ module _ (w : Walk) (spot : Spot) (f : Fork) (second : ℕ) (rs ss xs ys : List 
       both_meet w spot f second rs ss xs ys first last number
       ∙ meets w.plan.now spot.method spot.at f.root xs ys new first_sized second_sized e
 
-  pub both_stop : (stop : Stop) (new : List Interval) → MeetsAnswer f.root xs ys new (Err stop) → FaultOf (met_in w spot f rs ss) (fault_of stop spot)
+  pub both_stop : (stop : Stop) (new : List Interval) → MeetsAnswer f.root xs ys new (Err stop) → StopsAt (met_in w spot f rs ss) stop spot
   both_stop (stops.At node cause) new e =
       both_meet w spot f second rs ss xs ys first last number
       ∙ meets_not w.plan.now spot.method spot.at f.root xs ys cause first_sized second_sized e.1
@@ -194,8 +194,28 @@ module _ (w : Walk) (spot : Spot) (f : Fork) (second : ℕ) (rs ss xs ys : List 
   pub both_join_back : (new : List Interval) → joined_lists ys xs ≡ Ok new → met_in w spot f rs ss ≡ Ok (ranges_in w.plan.now new)
   both_join_back new e = both_join new (joined_either xs ys same_length ∙ e)
 
-  pub both_stop_back : (stop : Stop) (new : List Interval) → MeetsAnswer f.root ys xs new (Err stop) → FaultOf (met_in w spot f rs ss) (fault_of stop spot)
+  pub both_stop_back : (stop : Stop) (new : List Interval) → MeetsAnswer f.root ys xs new (Err stop) → StopsAt (met_in w spot f rs ss) stop spot
   both_stop_back (stops.At node cause) new e = both_stop (stops.At node cause) new (e.0, joined_either xs ys same_length ∙ e.1)
   both_stop_back (stops.AtOne node cause x) new e = absurd e
   both_stop_back (stops.AtTwo node cause x y) new e = absurd e
   both_stop_back stops.Memory new e = tt
+
+-- both lists were walked, and one of them stops
+pub both_fault : (w : Walk) (spot : Spot) (f : Fork) (second : ℕ) (rs ss xs ys : List Interval) (before behind : Result ℕ WalkStop) (stop : WalkStop) → second ≡ spot.at + 1 + written (body_of f.yes.now) → IsBehindLists before behind (Err stop)
+    → Passes (through_body w (first_spot spot) (body_of f.yes.now) rs) xs before → Passes (through_body w (record spot { at = second }) (body_of f.no.now) ss) ys behind
+    → FaultOf (met_in w spot f rs ss) stop
+both_fault w spot f second rs ss xs ys (Ok n) (Ok m) stop number is first last = absurd cc
+both_fault w spot f second rs ss xs ys (Ok n) (Err s) stop number is first last =
+    let same : s ≡ stop = cc in
+    subst (FaultOf (met_in w spot f rs ss)) same
+    (second_stops w spot f rs ss xs s first.0
+    (subst (λ k. FaultOf (walked_in w (record spot { at = k }) (body_of f.no.now) ss) s) number last))
+both_fault w spot f second rs ss xs ys (Err s) (Ok m) stop number is first last =
+    let same : s ≡ stop = cc in
+    subst (FaultOf (met_in w spot f rs ss)) same (first_stops w spot f rs ss s first)
+both_fault w spot f second rs ss xs ys (Err s) (Err (walks.Refused refusal)) stop number is first last =
+    let same : s ≡ stop = cc in
+    subst (FaultOf (met_in w spot f rs ss)) same (first_stops w spot f rs ss s first)
+both_fault w spot f second rs ss xs ys (Err s) (Err walks.Memory) stop number is first last =
+    let same : walks.Memory ≡ stop = cc in
+    subst (FaultOf (met_in w spot f rs ss)) same tt

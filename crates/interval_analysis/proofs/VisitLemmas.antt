@@ -25,6 +25,7 @@ use Rattle.pap_types.specs.Limits.{longest_chain}
 use Rattle.pap_types.specs.Routines.{body_named}
 use Rattle.pap_types.specs.Scopes.{Scope, scope_of}
 use Rattle.interval_walk.specs.Ranges.{Ranges}
+use Rattle.interval_walk.specs.Branches as meant
 use Rattle.interval_walk.specs.Failures.{NodeFault, WalkFault, and_then, at_stmt}
 use Rattle.interval_walk.specs.Ranged.{ranged, tested}
 use Rattle.interval_walk.specs.Analysis.{start_ranges}
@@ -36,8 +37,9 @@ use Rattle.interval_analysis.specs.declared.branches.Change.{Change}
 use Rattle.interval_analysis.specs.declared.expressions.Walk.{Walk}
 use Rattle.interval_analysis.specs.declared.statements.Fork.{Fork}
 use Rattle.interval_analysis.specs.declared.statements.Spot.{Spot}
+use Rattle.interval_analysis.specs.declared.stop.WalkStop.{WalkStop}
+use Rattle.interval_analysis.specs.declared.stop.WalkStop.TheVariants as walks
 use Rattle.interval_analysis.specs.declared.value_range.ValueRange.{ValueRange}
-use Rattle.interval_analysis.specs.declared.verdict.Survey.{Survey}
 use Rattle.interval_analysis.specs.declared.visits.Known.{Known}
 use Rattle.interval_analysis.specs.private.Changes.{changed}
 use Rattle.interval_analysis.specs.private.PlanViews.{ranges_in, ranges_after, branches_in}
@@ -45,7 +47,9 @@ use Rattle.interval_analysis.specs.private.StatementViews.{calls_in, first_spot,
 use Rattle.rising_lists.proofs.Laws.{first_tie, second_tie, text_same, tied}
 use Rattle.interval_walk.specs.Visits.{Visit, BodyComes, CallsCome, WalkComes, Execution, IsVisited, IsPutWithin, PutsValue, TakesExit}
 use Rattle.interval_analysis.specs.Surveys.{StatementPlace, place_cmp, IsOneOf, IsVisitedBy, value_range, IsLeastRange, IsLeastOf, PutsAt, IsPutBy, HasValue, ExitPlace, exit_statement, exit_cmp, IsExitOf, OpensAt, IsOpenBy}
-use Rattle.interval_analysis.specs.private.VisitViews.{IsNothing, SaysKnown, AddsThese, AddsVisits, GathersIn, place_in, PutsInPlace, AddsPlace, AddsRange, AddsExit, AddsEval, AddsIf, ComesIn, ComesInBoth, ComesInCall, ComesInLists}
+use Rattle.interval_analysis.specs.private.VisitViews.{IsNothing, AddsThese, AddsVisits, GathersIn, place_in, PutsInPlace, AddsPlace, AddsRange, AddsExit, AddsEval, AddsIf, ComesIn, ComesInBoth, ComesInCall, ComesInLists}
+use Rattle.interval_analysis.specs.private.StopViews.{FaultOf, StopsWith, WithMemory, IsBehindLists}
+use Rattle.interval_analysis.proofs.StopLemmas.{fault_passes_not, with_map, both_with}
 use Rattle.interval_analysis.proofs.RangeLemmas.{value_within, value_inside, least_as, least_known, least_unknown, least_stays, least_then}
 
 -- ---- what is kept
@@ -316,6 +320,11 @@ if_added_on (Ok u) spot branches first second was mid next now e f h g k =
     if_added spot branches was mid next now h (subst (λ o. AddsExit spot true o mid next) e g) (subst (λ o. AddsExit spot false o next now) f k)
 if_added_on (Err x) spot branches first second was mid next now e f h g k = tt
 
+-- nothing holds of an answer that there isn't
+passes_not : {A E : Type 0} (r : Result A E) (P : A → Type 0) → ((a : A) → r ≡ Ok a → ⊥) → IsOkAnd r P → ⊥
+passes_not (Ok a) P fails h = fails a refl
+passes_not (Err e) P fails h = h
+
 -- ---- what visits find
 
 -- of some visits and of others
@@ -369,9 +378,8 @@ module _ (scope : Scope) where
       nothing : AddsThese (λ p. ⊥) (λ p r. ⊥) (λ q. ⊥) k k
       nothing = record { reached = λ p. stays; values = λ p. least_stays (get place_cmp k.values p); exits = λ q. stays }
 
-  pub gather_as_on : {E : Type 0} (r : Result ℕ E) (P R : Visit → Type 0) (a b : Option Known) → OnOk r (GathersIn scope P a b) → ((v : Visit) → R v ↔ P v) → OnOk r (GathersIn scope R a b)
-  gather_as_on (Ok n) P R a b h same = gather_as P R a b h same
-  gather_as_on (Err e) P R a b h same = tt
+  pub gather_as_on : (r : Result ℕ WalkStop) (P R : Visit → Type 0) (a b : Option Known) → WithMemory r (GathersIn scope P a b) → ((v : Visit) → R v ↔ P v) → WithMemory r (GathersIn scope R a b)
+  gather_as_on r P R a b h same = with_map r (GathersIn scope P a b) (GathersIn scope R a b) (λ g. gather_as P R a b g same) h
 
   -- what is kept of one statement, whatever it is, is what its visit finds
   module _ (spot : Spot) (s : Body) (env : Ranges) where
@@ -434,6 +442,21 @@ module _ (scope : Scope) where
         λ h. (h.0, (exit holds).0 (subst (λ o. IsOkAnd o (λ br. IsSome (if holds then br.holds else br.fails))) ran h.1)),
         λ h. (h.0, subst (λ o. IsOkAnd o (λ br. IsSome (if holds then br.holds else br.fails))) (sym ran) ((exit holds).1 h.1)),
       )
+
+  -- an EVAL whose expression may fail, and an IF whose test may
+  pub eval_gathers_none : (spot : Spot) (x : List ℕ) (t : Term) (env : Ranges) (was now : Option Known) → ((a : Interval) → ranged scope t 0 env ≡ Ok a → ⊥) → IfSome was (λ k. IsSomeAnd now (AddsPlace spot k)) → GathersIn scope (Here spot (eval x t done) env) was now
+  eval_gathers_none spot x t env None now fails h = tt
+  eval_gathers_none spot x t env (Some k) None fails h = absurd h
+  eval_gathers_none spot x t env (Some k) (Some l) fails h =
+      visit_added spot (eval x t done) env (λ p r. ⊥) (λ q. ⊥) k l h
+      (λ p r. (λ h. passes_not (ranged scope t 0 env) (λ a. h.1.0 ≡ kept_range scope x a) fails h.1.1, λ n. absurd n)) (λ q. (λ h. h.1, λ n. absurd n))
+
+  pub if_gathers_none : (spot : Spot) (t : Term) (a b : Body) (env : Ranges) (was now : Option Known) → ((br : meant.Branches) → tested scope t 0 env ≡ Ok br → ⊥) → IfSome was (λ k. IsSomeAnd now (AddsPlace spot k)) → GathersIn scope (Here spot (branch t a b done) env) was now
+  if_gathers_none spot t a b env None now fails h = tt
+  if_gathers_none spot t a b env (Some k) None fails h = absurd h
+  if_gathers_none spot t a b env (Some k) (Some l) fails h =
+      visit_added spot (branch t a b done) env (λ p r. ⊥) (λ q. ⊥) k l h
+      (λ p r. (λ h. absurd h.1.1, λ n. absurd n)) (λ q. (λ h. passes_not (tested scope t 0 env) (λ br. IsSome (if q.2 then br.holds else br.fails)) fails h.1, λ n. absurd n))
 
   -- an EXECUTE
   pub execute_gathers : (spot : Spot) (m : List ℕ) (env : Ranges) (was now : Option Known) → IfSome was (λ k. IsSomeAnd now (AddsPlace spot k)) → GathersIn scope (Here spot (execute m done) env) was now
@@ -557,6 +580,26 @@ turn_gathers w spot s rest next rs ms a b c first passes number behind =
         from (inl h) = inl h
         from (inr h) = inr (behind_is.1 (subst (λ k. ComesIn w (record spot { at = k }) rest (ranges_in w.plan.now ms) v) number h))
 
+-- a statement that stops: nothing comes behind it
+pub stop_gathers : (w : Walk) (spot : Spot) (s : Stmt) (rest : Body) (rs : List Interval) (stop : WalkStop) (a b : Option Known) → FaultOf (walked_in w spot (stmt_then s done) rs) stop
+    → StopsWith stop (GathersIn (scope_in w.plan.now) (ComesIn w spot (stmt_then s done) (ranges_in w.plan.now rs)) a b)
+    → StopsWith stop (GathersIn (scope_in w.plan.now) (ComesIn w spot (stmt_then s rest) (ranges_in w.plan.now rs)) a b)
+stop_gathers w spot s rest rs walks.Memory a b is h = tt
+stop_gathers w spot s rest rs (walks.Refused refusal) a b is h =
+    gather_as (scope_in w.plan.now) (ComesIn w spot (stmt_then s done) (ranges_in w.plan.now rs)) (ComesIn w spot (stmt_then s rest) (ranges_in w.plan.now rs)) a b h by_visit
+  where
+    by_visit : (v : Visit) → ComesIn w spot (stmt_then s rest) (ranges_in w.plan.now rs) v ↔ ComesIn w spot (stmt_then s done) (ranges_in w.plan.now rs) v
+    by_visit v =
+        let parts = comes_then (scope_in w.plan.now) (calls_in w spot.chain) (CallsCome (scope_in w.plan.now) (methods_in w.plan.now) spot.chain) spot.method v s rest spot.at (ranges_in w.plan.now rs) in
+        (λ h. to (parts.0 h), λ h. parts.1 (inl h))
+      where
+        Behind : Ranges → Type 0
+        Behind env = ComesIn w (record spot { at = spot.at + written (stmt_then s done) }) rest env v
+
+        to : ComesIn w spot (stmt_then s done) (ranges_in w.plan.now rs) v ⊎ IsOkAnd (walked_in w spot (stmt_then s done) rs) Behind → ComesIn w spot (stmt_then s done) (ranges_in w.plan.now rs) v
+        to (inl h) = h
+        to (inr h) = absurd (passes_not (walked_in w spot (stmt_then s done) rs) Behind (λ a e. fault_passes_not (walked_in w spot (stmt_then s done) rs) refusal.value.fault refusal.value.operands.items a is e) h)
+
 -- ---- statements alone
 
 module _ (w : Walk) (spot : Spot) where
@@ -590,36 +633,59 @@ module _ (w : Walk) (spot : Spot) where
       from v (inl h) = inl h
       from v (inr h) = inr (inl ((lists_are v).1 h))
 
-  pub if_comes_on : {E : Type 0} (r : Result ℕ E) (t : Term) (a b : Body) (rs : List Interval) (branches : Branches) (was mid now : Option Known) → tested (scope_in w.plan.now) t 0 (ranges_in w.plan.now rs) ≡ Ok (branches_in w.plan.now rs branches)
-      → IfSome was (λ k. IsSomeAnd mid (AddsIf spot branches k)) → OnOk r (GathersIn (scope_in w.plan.now) (ComesInLists w spot a b (branches_in w.plan.now rs branches)) mid now)
-      → OnOk r (GathersIn (scope_in w.plan.now) (ComesIn w spot (branch t a b done) (ranges_in w.plan.now rs)) was now)
-  if_comes_on (Ok n) t a b rs branches was mid now ran h lists = if_comes t a b rs branches was mid now ran h lists
-  if_comes_on (Err e) t a b rs branches was mid now ran h lists = tt
+  pub if_comes_on : (r : Result ℕ WalkStop) (t : Term) (a b : Body) (rs : List Interval) (branches : Branches) (was mid now : Option Known) → tested (scope_in w.plan.now) t 0 (ranges_in w.plan.now rs) ≡ Ok (branches_in w.plan.now rs branches)
+      → IfSome was (λ k. IsSomeAnd mid (AddsIf spot branches k)) → WithMemory r (GathersIn (scope_in w.plan.now) (ComesInLists w spot a b (branches_in w.plan.now rs branches)) mid now)
+      → WithMemory r (GathersIn (scope_in w.plan.now) (ComesIn w spot (branch t a b done) (ranges_in w.plan.now rs)) was now)
+  if_comes_on r t a b rs branches was mid now ran h lists =
+      with_map r (GathersIn (scope_in w.plan.now) (ComesInLists w spot a b (branches_in w.plan.now rs branches)) mid now) (GathersIn (scope_in w.plan.now) (ComesIn w spot (branch t a b done) (ranges_in w.plan.now rs)) was now)
+      (if_comes t a b rs branches was mid now ran h) lists
+
+  -- an EVAL whose expression may fail, and an IF whose test may
+  pub eval_stops : (x : List ℕ) (t : Term) (env : Ranges) (was now : Option Known) → ((a : Interval) → ranged (scope_in w.plan.now) t 0 env ≡ Ok a → ⊥)
+      → IfSome was (λ k. IsSomeAnd now (AddsPlace spot k)) → GathersIn (scope_in w.plan.now) (ComesIn w spot (eval x t done) env) was now
+  eval_stops x t env was now fails h =
+      gather_as (scope_in w.plan.now) (λ v. v ≡ record { method = spot.method; number = spot.at; statement = eval x t done; ranges = env }) (ComesIn w spot (eval x t done) env) was now
+      (eval_gathers_none (scope_in w.plan.now) spot x t env was now fails h) (λ v. (to v, λ h. inl h))
+    where
+      to : (v : Visit) → ComesIn w spot (eval x t done) env v → v ≡ record { method = spot.method; number = spot.at; statement = eval x t done; ranges = env }
+      to v (inl h) = h
+      to v (inr h) = absurd (never (ranged (scope_in w.plan.now) t 0 env) h)
+
+  pub if_stops : (t : Term) (a b : Body) (env : Ranges) (was now : Option Known) → ((br : meant.Branches) → tested (scope_in w.plan.now) t 0 env ≡ Ok br → ⊥)
+      → IfSome was (λ k. IsSomeAnd now (AddsPlace spot k)) → GathersIn (scope_in w.plan.now) (ComesIn w spot (branch t a b done) env) was now
+  if_stops t a b env was now fails h =
+      gather_as (scope_in w.plan.now) (λ v. v ≡ record { method = spot.method; number = spot.at; statement = branch t a b done; ranges = env }) (ComesIn w spot (branch t a b done) env) was now
+      (if_gathers_none (scope_in w.plan.now) spot t a b env was now fails h) (λ v. (to v, λ h. inl h))
+    where
+      to : (v : Visit) → ComesIn w spot (branch t a b done) env v → v ≡ record { method = spot.method; number = spot.at; statement = branch t a b done; ranges = env }
+      to v (inl h) = h
+      to v (inr (inl h)) = absurd (passes_not (tested (scope_in w.plan.now) t 0 env) (λ br. ComesInLists w spot a b br v) fails h)
+      to v (inr (inr h)) = absurd (never (walked (scope_in w.plan.now) (calls_in w spot.chain) spot.method spot.at (branch t a b done) env) h)
 
   -- the lists of an IF, where the one, the other or both of its branches can be reached
-  pub first_list : {E : Type 0} (r : Result ℕ E) (f : Fork) (rs : List Interval) (cs : List Change) (branches : Branches) (held : Vec Change Global) (was now : Option Known) → branches.holds ≡ Some held → branches.fails ≡ None → cs ≡ held.items
-      → OnOk r (GathersIn (scope_in w.plan.now) (ComesIn w (first_spot spot) (body_of f.yes.now) (ranges_in w.plan.now (changed rs cs))) was now)
-      → OnOk r (GathersIn (scope_in w.plan.now) (ComesInLists w spot (body_of f.yes.now) (body_of f.no.now) (branches_in w.plan.now rs branches)) was now)
+  pub first_list : (r : Result ℕ WalkStop) (f : Fork) (rs : List Interval) (cs : List Change) (branches : Branches) (held : Vec Change Global) (was now : Option Known) → branches.holds ≡ Some held → branches.fails ≡ None → cs ≡ held.items
+      → WithMemory r (GathersIn (scope_in w.plan.now) (ComesIn w (first_spot spot) (body_of f.yes.now) (ranges_in w.plan.now (changed rs cs))) was now)
+      → WithMemory r (GathersIn (scope_in w.plan.now) (ComesInLists w spot (body_of f.yes.now) (body_of f.no.now) (branches_in w.plan.now rs branches)) was now)
   first_list r f rs cs branches held was now holds fails same h =
       let p = w.plan.now in
       let first : branches_in p rs branches ≡ record { holds = Some (ranges_in p (changed rs cs)); fails = None } =
       λ i. record { holds = (ap (ranges_after p rs) holds ∙ ap (λ cs. Some (ranges_in p (changed rs cs))) (sym same)) i; fails = ap (ranges_after p rs) fails i } in
-      subst (λ br. OnOk r (GathersIn (scope_in p) (ComesInLists w spot (body_of f.yes.now) (body_of f.no.now) br) was now)) (sym first)
+      subst (λ br. WithMemory r (GathersIn (scope_in p) (ComesInLists w spot (body_of f.yes.now) (body_of f.no.now) br) was now)) (sym first)
       (gather_as_on (scope_in p) r (ComesIn w (first_spot spot) (body_of f.yes.now) (ranges_in p (changed rs cs))) (ComesInLists w spot (body_of f.yes.now) (body_of f.no.now) (record { holds = Some (ranges_in p (changed rs cs)); fails = None })) was now h (λ v. back stays))
 
-  pub second_list : {E : Type 0} (r : Result ℕ E) (f : Fork) (rs : List Interval) (cs : List Change) (branches : Branches) (failed : Vec Change Global) (was now : Option Known) → branches.holds ≡ None → branches.fails ≡ Some failed → cs ≡ failed.items
-      → OnOk r (GathersIn (scope_in w.plan.now) (ComesIn w (second_spot spot f) (body_of f.no.now) (ranges_in w.plan.now (changed rs cs))) was now)
-      → OnOk r (GathersIn (scope_in w.plan.now) (ComesInLists w spot (body_of f.yes.now) (body_of f.no.now) (branches_in w.plan.now rs branches)) was now)
+  pub second_list : (r : Result ℕ WalkStop) (f : Fork) (rs : List Interval) (cs : List Change) (branches : Branches) (failed : Vec Change Global) (was now : Option Known) → branches.holds ≡ None → branches.fails ≡ Some failed → cs ≡ failed.items
+      → WithMemory r (GathersIn (scope_in w.plan.now) (ComesIn w (second_spot spot f) (body_of f.no.now) (ranges_in w.plan.now (changed rs cs))) was now)
+      → WithMemory r (GathersIn (scope_in w.plan.now) (ComesInLists w spot (body_of f.yes.now) (body_of f.no.now) (branches_in w.plan.now rs branches)) was now)
   second_list r f rs cs branches failed was now holds fails same h =
       let p = w.plan.now in
       let second : branches_in p rs branches ≡ record { holds = None; fails = Some (ranges_in p (changed rs cs)) } =
       λ i. record { holds = ap (ranges_after p rs) holds i; fails = (ap (ranges_after p rs) fails ∙ ap (λ cs. Some (ranges_in p (changed rs cs))) (sym same)) i } in
-      subst (λ br. OnOk r (GathersIn (scope_in p) (ComesInLists w spot (body_of f.yes.now) (body_of f.no.now) br) was now)) (sym second)
+      subst (λ br. WithMemory r (GathersIn (scope_in p) (ComesInLists w spot (body_of f.yes.now) (body_of f.no.now) br) was now)) (sym second)
       (gather_as_on (scope_in p) r (ComesIn w (second_spot spot f) (body_of f.no.now) (ranges_in p (changed rs cs))) (ComesInLists w spot (body_of f.yes.now) (body_of f.no.now) (record { holds = None; fails = Some (ranges_in p (changed rs cs)) })) was now h (λ v. back comes_last))
 
-  pub both_lists : {E : Type 0} (r : Result ℕ E) (f : Fork) (rs : List Interval) (cs ds : List Change) (branches : Branches) (held failed : Vec Change Global) (was now : Option Known) → branches.holds ≡ Some held → branches.fails ≡ Some failed → cs ≡ held.items → ds ≡ failed.items
-      → OnOk r (GathersIn (scope_in w.plan.now) (ComesInBoth w spot f (changed rs cs) (changed rs ds)) was now)
-      → OnOk r (GathersIn (scope_in w.plan.now) (ComesInLists w spot (body_of f.yes.now) (body_of f.no.now) (branches_in w.plan.now rs branches)) was now)
+  pub both_lists : (r : Result ℕ WalkStop) (f : Fork) (rs : List Interval) (cs ds : List Change) (branches : Branches) (held failed : Vec Change Global) (was now : Option Known) → branches.holds ≡ Some held → branches.fails ≡ Some failed → cs ≡ held.items → ds ≡ failed.items
+      → WithMemory r (GathersIn (scope_in w.plan.now) (ComesInBoth w spot f (changed rs cs) (changed rs ds)) was now)
+      → WithMemory r (GathersIn (scope_in w.plan.now) (ComesInLists w spot (body_of f.yes.now) (body_of f.no.now) (branches_in w.plan.now rs branches)) was now)
   both_lists r f rs cs ds branches held failed was now holds fails same other h =
       let p = w.plan.now in
       let both : branches_in p rs branches ≡ record { holds = Some (ranges_in p (changed rs cs)); fails = Some (ranges_in p (changed rs ds)) } =
@@ -627,7 +693,49 @@ module _ (w : Walk) (spot : Spot) where
         holds = (ap (ranges_after p rs) holds ∙ ap (λ cs. Some (ranges_in p (changed rs cs))) (sym same)) i;
         fails = (ap (ranges_after p rs) fails ∙ ap (λ cs. Some (ranges_in p (changed rs cs))) (sym other)) i;
       } in
-      subst (λ br. OnOk r (GathersIn (scope_in p) (ComesInLists w spot (body_of f.yes.now) (body_of f.no.now) br) was now)) (sym both) h
+      subst (λ br. WithMemory r (GathersIn (scope_in p) (ComesInLists w spot (body_of f.yes.now) (body_of f.no.now) br) was now)) (sym both) h
+
+  -- neither list, where no branch can be reached
+  pub no_list : (a b : Body) (rs : List Interval) (branches : Branches) (was : Option Known) → branches.holds ≡ None → branches.fails ≡ None
+      → GathersIn (scope_in w.plan.now) (ComesInLists w spot a b (branches_in w.plan.now rs branches)) was was
+  no_list a b rs branches was holds fails =
+      let p = w.plan.now in
+      let none : branches_in p rs branches ≡ record { holds = None; fails = None } = λ i. record { holds = ap (ranges_after p rs) holds i; fails = ap (ranges_after p rs) fails i } in
+      subst (λ br. GathersIn (scope_in p) (ComesInLists w spot a b br) was was) (sym none)
+      (gather_none (scope_in p) (ComesInLists w spot a b (record { holds = None; fails = None })) was nowhere)
+    where
+      nowhere : (v : Visit) → ComesInLists w spot a b (record { holds = None; fails = None }) v → ⊥
+      nowhere v (inl h) = h
+      nowhere v (inr h) = h
+
+  -- both lists, the first one first or last
+  module _ (f : Fork) (second : ℕ) (rs ss : List Interval) (before behind told : Result ℕ WalkStop) (a b c : Option Known) (number : second ≡ spot.at + 1 + written (body_of f.yes.now)) (is : IsBehindLists before behind told) where
+    abbrev First : (was now : Option Known) → Type 0
+    First was now = GathersIn (scope_in w.plan.now) (ComesIn w (first_spot spot) (body_of f.yes.now) (ranges_in w.plan.now rs)) was now
+
+    abbrev Second : ℕ → (was now : Option Known) → Type 0
+    Second k was now = GathersIn (scope_in w.plan.now) (ComesIn w (record spot { at = k }) (body_of f.no.now) (ranges_in w.plan.now ss)) was now
+
+    abbrev Both : Type 0
+    Both = GathersIn (scope_in w.plan.now) (ComesInBoth w spot f rs ss) a c
+
+    pub both_come : WithMemory before (First a b) → WithMemory behind (Second second b c) → WithMemory told Both
+    both_come first last =
+        both_with before behind told (First a b) (Second second b c) Both is first last
+        (λ h g.
+        gather_then (scope_in w.plan.now) (ComesIn w (first_spot spot) (body_of f.yes.now) (ranges_in w.plan.now rs)) (ComesIn w (second_spot spot f) (body_of f.no.now) (ranges_in w.plan.now ss)) (ComesInBoth w spot f rs ss) a b c
+        h (subst (λ k. Second k b c) number g) (λ v. (λ x. x, λ x. x)))
+
+    pub both_come_back : WithMemory before (First b c) → WithMemory behind (Second second a b) → WithMemory told Both
+    both_come_back first last =
+        both_with before behind told (First b c) (Second second a b) Both is first last
+        (λ h g.
+        gather_then (scope_in w.plan.now) (ComesIn w (second_spot spot f) (body_of f.no.now) (ranges_in w.plan.now ss)) (ComesIn w (first_spot spot) (body_of f.yes.now) (ranges_in w.plan.now rs)) (ComesInBoth w spot f rs ss) a b c
+        (subst (λ k. Second k a b) number g) h (λ v. (swap, swap)))
+      where
+        swap : {A B : Type 0} → A ⊎ B → B ⊎ A
+        swap (inl h) = inr h
+        swap (inr h) = inl h
 
   -- an EXECUTE, and then its method
   pub execute_comes : (m : List ℕ) (env : Ranges) (was mid now : Option Known) → IfSome was (λ k. IsSomeAnd mid (AddsPlace spot k)) → GathersIn (scope_in w.plan.now) (ComesInCall w m spot.chain env) mid now
@@ -659,14 +767,26 @@ call_gathers w m (suc n) b env x y l e h =
       λ k. subst (λ o. IsSomeAnd o (λ b. ComesIn w (record { method = m; at = 0; chain = n }) b env v)) (sym e) k,
     ))
 
+-- no method is executed where no chain is left, or where it isn't there
+pub no_chain_gathers : (w : Walk) (m : List ℕ) (chain : ℕ) (env : Ranges) (x : Option Known) → chain ≡ 0 → GathersIn (scope_in w.plan.now) (ComesInCall w m chain env) x x
+unfolding CallsCome
+no_chain_gathers w m zero env x e = gather_none (scope_in w.plan.now) (ComesInCall w m 0 env) x (λ v h. h)
+no_chain_gathers w m (suc n) env x e = absurd (omega arith)
+
+pub no_method_gathers : (w : Walk) (m : List ℕ) (chain : ℕ) (env : Ranges) (x : Option Known) → body_named (methods_in w.plan.now) m ≡ None → GathersIn (scope_in w.plan.now) (ComesInCall w m chain env) x x
+unfolding CallsCome
+no_method_gathers w m zero env x e = gather_none (scope_in w.plan.now) (ComesInCall w m 0 env) x (λ v h. h)
+no_method_gathers w m (suc n) env x e =
+    gather_none (scope_in w.plan.now) (ComesInCall w m (suc n) env) x
+    (λ v h. subst (λ o. IsSomeAnd o (λ b. ComesIn w (record { method = m; at = 0; chain = n }) b env v)) e h)
+
 -- ---- what is known of a whole walk
 
 -- the walk of MAIN from the start
-pub walk_gathers : {E : Type 0} {A : Type 0} (r : Result A E) (p q : PlanText) (limits : Limits) (m : List ℕ) (main : Body) (rs : List Interval) (a b : Option Known) → q ≡ p → m ≡ main_name → main ≡ (flowchart_of p).main → ranges_in p rs ≡ start_ranges (flowchart_of p) limits
+pub walk_gathers : (p q : PlanText) (limits : Limits) (m : List ℕ) (main : Body) (rs : List Interval) (a b : Option Known) → q ≡ p → m ≡ main_name → main ≡ (flowchart_of p).main → ranges_in p rs ≡ start_ranges (flowchart_of p) limits
     → GathersIn (scope_in q) (λ v. BodyComes (scope_in q) (range_calls_of (scope_in q) (methods_in q) longest_chain) (CallsCome (scope_in q) (methods_in q) longest_chain) m v 0 main (ranges_in q rs)) a b
-    → OnOk r (GathersIn (scope_of (flowchart_of p)) (WalkComes (flowchart_of p) limits) a b)
-walk_gathers (Err e) p q limits m main rs a b same name is begins h = tt
-walk_gathers (Ok x) p q limits m main rs a b same name is begins h =
+    → GathersIn (scope_of (flowchart_of p)) (WalkComes (flowchart_of p) limits) a b
+walk_gathers p q limits m main rs a b same name is begins h =
     let Comes : PlanText → List ℕ → Body → Ranges → Visit → Type 0 =
     λ q m main env v. BodyComes (scope_in q) (range_calls_of (scope_in q) (methods_in q) longest_chain) (CallsCome (scope_in q) (methods_in q) longest_chain) m v 0 main env in
     let plan = subst (λ q. GathersIn (scope_in q) (Comes q m main (ranges_in q rs)) a b) same h in
@@ -711,14 +831,6 @@ pub some_known : (scope : Scope) (Comes : Visit → Type 0) (a b : Option Known)
 some_known scope Comes None b nothing h = absurd nothing
 some_known scope Comes (Some j) None nothing h = absurd h
 some_known scope Comes (Some j) (Some l) nothing h = refl
-
--- a survey says what is known
-pub survey_found : (scope : Scope) (Comes : Visit → Type 0) (a b : Option Known) (s : Survey) → IsSomeAnd a IsNothing → GathersIn scope Comes a b → IfSome b (λ k. SaysKnown k s) → IsFound scope Comes (record { reached = s.reached; values = s.values; exits = s.exits })
-survey_found scope Comes None b s nothing h k = absurd nothing
-survey_found scope Comes (Some j) None s nothing h k = absurd h
-survey_found scope Comes (Some j) (Some l) s nothing h k =
-    let same : l ≡ record { reached = s.reached; values = s.values; exits = s.exits } = λ i. record { reached = sym k.reached i; values = sym k.values i; exits = sym k.exits i } in
-    subst (IsFound scope Comes) same (all_found scope Comes (Some j) (Some l) l nothing h refl)
 
 -- what is known has what an execution at a visit puts and takes
 module _ (scope : Scope) (Comes : Visit → Type 0) (k : Known) (found : IsFound scope Comes k) (x : Execution) (h : IsVisited scope Comes x) where

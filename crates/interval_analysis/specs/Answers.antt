@@ -34,3 +34,9 @@ AreFailingOperands f limits (faults.At place cause) ranges =
     (operands : List Interval) × (analysed f limits ≡ Err (node_fails place cause operands))
     × (map value_range operands ≡ ranges)
 AreFailingOperands f limits other ranges = ranges ≡ []
+
+-- what holds of a fault, unless it is that memory ran out
+abbrev pub UnlessMemory : RangeFault → Type 0 → Type 0
+UnlessMemory (faults.At place cause) P = P
+UnlessMemory (faults.Output name) P = P
+UnlessMemory (faults.Memory e) P = ⊤

@@ -1,5 +1,5 @@
 //! The analysis of a plan.
-ghost use Rattle.std.specs.Prelude.{◌≡◌, ◌≤◌, IfOk, IfErr, IfSome, IsSome, Ok, OnOk, List, map};
+ghost use Rattle.std.specs.Prelude.{◌≡◌, ◌≤◌, IfOk, IfErr, IsSome, Ok, Some, List, map};
 ghost use Rattle.scaled_decimal.specs.Decimals.{Decimal};
 ghost use Rattle.pap_tree.specs.Flowchart.{flowchart_of};
 ghost use Rattle.pap_types.specs.Meaning.{bound_of, cost_of};
@@ -8,11 +8,11 @@ ghost use Rattle.call_order.specs.Orders.{IsOrdered};
 ghost use Rattle.interval_walk.specs.Admission.{HaveLimits, AreAdmitted};
 ghost use Rattle.interval_walk.specs.Analysis.{analysed};
 ghost use Rattle.interval_walk.specs.Soundness.{RunHolds};
-ghost use Rattle.interval_analysis.specs.Answers.{named_range, AreFailingOperands, IsWalkFaultOrMemory};
+ghost use Rattle.interval_analysis.specs.Answers.{named_range, AreFailingOperands, IsWalkFaultOrMemory, UnlessMemory};
 ghost use Rattle.interval_analysis.specs.Surveys.{AreLeastRanges, AreOpen, AreReached, HaveExecuted, HavePut, HaveTaken};
 ghost use Rattle.interval_analysis.specs.private.OutputViews.{OutputAnswer};
-ghost use Rattle.interval_analysis.specs.private.StopViews.{IsStopOf};
-ghost use Rattle.interval_analysis.specs.private.VisitViews.{Gathers, SaysKnown};
+ghost use Rattle.interval_analysis.specs.private.StopViews.{FaultOf, WithMemory};
+ghost use Rattle.interval_analysis.specs.private.VisitViews.{Gathers, refused_known, survey_known};
 ghost use Rattle.interval_walk.specs.Visits.{WalkComes};
 
 use crate::bounds::bound_of;
@@ -20,7 +20,7 @@ use crate::expressions::Walk;
 use crate::outputs::output_ranges;
 use crate::start::start_ranges;
 use crate::statements::Spot;
-use crate::stop::{WalkStop, refused};
+use crate::stop::{Refusal, WalkStop};
 use crate::tables::TabledPlan;
 use crate::variables::Variables;
 use crate::visits::Visits;
@@ -74,7 +74,8 @@ pub fn analyse(
 /// value that it puts lies in the statement's range, and each exit that it takes is open; so no such run executes another
 /// statement or takes another exit.
 ///
-/// Refused as by [`analyse`], with the ranges of the failing node's operands; `Memory` also where memory runs out for these.
+/// Refused as by [`analyse`], with the ranges of the failing node's operands and the same of the statements to which the walk came
+/// until it stopped; `Memory` also where memory runs out for these.
 ///
 /// Takes time as `analyse`, with a factor logarithmic in the number of statements at each statement that is walked, and memory
 /// linear in that number beside what `analyse` takes.
@@ -92,6 +93,12 @@ pub fn survey(
     ensures fault { IfErr result (λ r. IsWalkFaultOrMemory (flowchart_of t.now) limits.now r.fault) }
     ensures operands { IfErr result
         (λ r. AreFailingOperands (flowchart_of t.now) limits.now r.fault r.operands.items) }
+    ensures refused_reached { IfErr result
+        (λ r. UnlessMemory r.fault (AreReached (flowchart_of t.now) limits.now r.reached)) }
+    ensures refused_values { IfErr result
+        (λ r. UnlessMemory r.fault (AreLeastRanges (flowchart_of t.now) limits.now r.values)) }
+    ensures refused_exits { IfErr result
+        (λ r. UnlessMemory r.fault (AreOpen (flowchart_of t.now) limits.now r.exits)) }
     ensures reached { IfOk result (λ s. AreReached (flowchart_of t.now) limits.now s.reached) }
     ensures values { IfOk result (λ s. AreLeastRanges (flowchart_of t.now) limits.now s.values) }
     ensures exits { IfOk result (λ s. AreOpen (flowchart_of t.now) limits.now s.exits) }
@@ -106,7 +113,8 @@ pub fn survey(
     let mut visits = Visits::new(alloc);
     match judged(alloc, t, order, limits, &mut visits) {
         Ok(verdict) => Ok(survey_of(verdict, visits)),
-        Err(stop) => Err(refused(alloc, stop)),
+        Err(WalkStop::Refused(refusal)) => Err(refused_survey(Box::into_inner(refusal), visits)),
+        Err(WalkStop::Memory) => Err(RefusedSurvey::without_memory(alloc)),
     }
 }
 
@@ -123,8 +131,8 @@ fn judged(
     ensures ranges { IfOk result
         (λ v. analysed (flowchart_of t.now) limits.now ≡ Ok (map named_range v.outputs.items)) }
     ensures bound { IfOk result (λ v. v.bound ≡ bound_of (flowchart_of t.now)) }
-    ensures stop { IfErr result (IsStopOf (analysed (flowchart_of t.now) limits.now)) }
-    ensures visits { OnOk result
+    ensures stop { IfErr result (FaultOf (analysed (flowchart_of t.now) limits.now)) }
+    ensures visits { WithMemory result
         (Gathers (scope_of (flowchart_of t.now)) (WalkComes (flowchart_of t.now) limits.now)
         visits.old visits.new) }
 {
@@ -138,11 +146,31 @@ fn judged(
 fn survey_of(verdict: Verdict, visits: Visits) -> Survey
     requires { IsSome visits.known }
     ensures verdict { result.verdict ≡ verdict }
-    ensures known { IfSome visits.known (λ known. SaysKnown known result) }
+    ensures known { visits.known ≡ Some (survey_known result) }
 {
     match visits.known {
         Some(known) => Survey {
             verdict,
+            reached: known.reached,
+            values: known.values,
+            exits: known.exits,
+        },
+        None => unreachable!(),
+    }
+}
+
+/// A refusal with what is known where a walk stopped of which it was kept.
+fn refused_survey(refusal: Refusal, visits: Visits) -> RefusedSurvey
+    requires { IsSome visits.known }
+    ensures fault { result.fault ≡ refusal.fault }
+    ensures operands { result.operands ≡ refusal.operands }
+    ensures known { visits.known ≡ Some (refused_known result) }
+{
+    let Refusal { fault, operands } = refusal;
+    match visits.known {
+        Some(known) => RefusedSurvey {
+            fault,
+            operands,
             reached: known.reached,
             values: known.values,
             exits: known.exits,
@@ -161,7 +189,7 @@ fn walked_outputs(
 ) -> Result<Vec<OutputRange>, WalkStop>
     requires { HaveLimits (flowchart_of plan.now) limits.now }
     ensures outputs { OutputAnswer (analysed (flowchart_of plan.now) limits.now) result }
-    ensures visits { OnOk result
+    ensures visits { WithMemory result
         (Gathers (scope_of (flowchart_of plan.now)) (WalkComes (flowchart_of plan.now) limits.now)
         visits.old visits.new) }
 {

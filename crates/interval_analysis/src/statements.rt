@@ -4,16 +4,17 @@ ghost use Rattle.std.specs.Option.{option_map};
 ghost use Rattle.pap_tree.specs.Flowchart.{routine_of, body_of, stmt_then, eval, done};
 ghost use Rattle.pap_tree.specs.Term.{term_of};
 ghost use Rattle.pap_types.specs.private.ScopeViews.{scope_in};
-ghost use Rattle.pap_types.specs.Checks.{place};
 ghost use Rattle.pap_types.specs.Routines.{body_named};
 ghost use Rattle.interval_num.specs.declared.cause.RangeCause.TheVariants.{Wide};
 ghost use Rattle.interval_walk.specs.Walked.{kept_range, range_kept_as};
+ghost use Rattle.interval_analysis.specs.declared.expressions.Stop.TheVariants.{At};
 ghost use Rattle.interval_analysis.specs.private.Changes.{changed};
 ghost use Rattle.interval_analysis.specs.private.PlanViews.{ranges_in, branches_in};
 ghost use Rattle.interval_analysis.specs.private.VariableViews.{AreHeld, GoesOn};
 ghost use Rattle.interval_analysis.specs.private.VisitViews.{ComesIn, ComesInBoth, ComesInCall, ComesInLists, Gathers};
 ghost use Rattle.pap_tree.specs.private.TreeViews.{if_of, methods_in};
-ghost use Rattle.interval_analysis.specs.private.StatementViews.{CanWalkBody, CanWalkLists, CanAssign, CanPut, CanKeep, IsMethodBody, Passes, EnvAnswer, through_body, through_if, through_fork, through_first, through_second, through_both, evaluated, executed, assigned_in, fault_of, first_spot, second_spot};
+ghost use Rattle.interval_analysis.specs.private.StatementViews.{CanWalkBody, CanWalkLists, CanAssign, CanPut, CanKeep, IsMethodBody, Passes, EnvAnswer, through_body, through_if, through_fork, through_first, through_second, through_both, evaluated, executed, assigned_in, first_spot, second_spot};
+ghost use Rattle.interval_analysis.specs.private.StopViews.{IsBehindLists, RefusesAt, WithMemory};
 
 use crate::branches::{Branches, Change};
 use crate::conditions::Tested;
@@ -25,7 +26,7 @@ use crate::variables::Variables;
 use crate::visits::Visits;
 use crate::weights::weight;
 use interval_num::{Abs, RangeCause};
-use pap_tree::{Expr, Kind, Method, Name, Place, Stmt};
+use pap_tree::{Expr, Kind, Method, Name, Stmt};
 use pap_types::{FACTOR_PLACES, Typed};
 use scaled_decimal::power_of_ten;
 use std::alloc::AllocError;
@@ -67,7 +68,7 @@ impl Walk<'_> {
         ensures passes { Passes (through_body self.now spot (body_of body.now) variables.old.ranges.items)
             variables.new.ranges.items result }
         ensures on { GoesOn self.now.plan.now variables.old variables.new }
-        ensures visits { OnOk result (Gathers (scope_in self.now.plan.now)
+        ensures visits { WithMemory result (Gathers (scope_in self.now.plan.now)
             (ComesIn self.now spot (body_of body.now)
             (ranges_in self.now.plan.now variables.old.ranges.items))
             visits.old visits.new) }
@@ -94,7 +95,7 @@ impl Walk<'_> {
         ensures passes { Passes (through_body self.now spot (stmt_then stmt.now done) variables.old.ranges.items)
             variables.new.ranges.items result }
         ensures on { GoesOn self.now.plan.now variables.old variables.new }
-        ensures visits { OnOk result (Gathers (scope_in self.now.plan.now)
+        ensures visits { WithMemory result (Gathers (scope_in self.now.plan.now)
             (ComesIn self.now spot (stmt_then stmt.now done)
             (ranges_in self.now.plan.now variables.old.ranges.items))
             visits.old visits.new) }
@@ -107,7 +108,7 @@ impl Walk<'_> {
             }
             Stmt::If { test, yes, no } => self.walk_if(spot, test, yes, no, variables, visits),
             Stmt::Execute { method } => {
-                visits.keep_execute(&spot)?;
+                visits.keep_place(&spot)?;
                 self.walk_method(method, chain, variables, visits)?;
                 Ok(at + 1)
             }
@@ -129,7 +130,7 @@ impl Walk<'_> {
         ensures passes { EnvAnswer self.now (evaluated self.now spot target.now value.now variables.old.ranges.items)
             variables.new.ranges.items result }
         ensures on { GoesOn self.now.plan.now variables.old variables.new }
-        ensures visits { OnOk result (Gathers (scope_in self.now.plan.now)
+        ensures visits { WithMemory result (Gathers (scope_in self.now.plan.now)
             (ComesIn self.now spot (eval target.now (term_of value.now) done)
             (ranges_in self.now.plan.now variables.old.ranges.items))
             visits.old visits.new) }
@@ -140,7 +141,10 @@ impl Walk<'_> {
                 visits.keep_eval(&spot, kept)?;
                 Ok(())
             }
-            Err(stop) => Err(fault_of(stop, spot)),
+            Err(stop) => {
+                visits.keep_place(&spot)?;
+                Err(WalkStop::at_node(self.alloc, stop, spot))
+            }
         }
     }
 
@@ -184,7 +188,7 @@ impl Walk<'_> {
         ensures passes { Passes (through_if self.now spot test.now yes.now no.now variables.old.ranges.items)
             variables.new.ranges.items result }
         ensures on { GoesOn self.now.plan.now variables.old variables.new }
-        ensures visits { OnOk result (Gathers (scope_in self.now.plan.now)
+        ensures visits { WithMemory result (Gathers (scope_in self.now.plan.now)
             (ComesIn self.now spot (if_of test.now yes.now no.now)
             (ranges_in self.now.plan.now variables.old.ranges.items))
             visits.old visits.new) }
@@ -196,7 +200,10 @@ impl Walk<'_> {
                 let fork = Fork { root, yes, no };
                 self.walk_fork(spot, &fork, branches, variables, visits)
             }
-            Err(stop) => Err(fault_of(stop, spot)),
+            Err(stop) => {
+                visits.keep_place(&spot)?;
+                Err(WalkStop::at_node(self.alloc, stop, spot))
+            }
         }
     }
 
@@ -216,7 +223,7 @@ impl Walk<'_> {
             (branches_in self.now.plan.now variables.old.ranges.items branches))
             variables.new.ranges.items result }
         ensures on { GoesOn self.now.plan.now variables.old variables.new }
-        ensures visits { OnOk result (Gathers (scope_in self.now.plan.now)
+        ensures visits { WithMemory result (Gathers (scope_in self.now.plan.now)
             (ComesInLists self.now spot (body_of fork.now.yes.now) (body_of fork.now.no.now)
             (branches_in self.now.plan.now variables.old.ranges.items branches))
             visits.old visits.new) }
@@ -224,7 +231,7 @@ impl Walk<'_> {
         let Branches { holds, fails } = branches;
         match holds {
             None => match fails {
-                None => Err(nowhere_at(spot, fork.root)),
+                None => Err(self.nowhere_at(spot, fork.root)),
                 Some(failed) => self.walk_second(spot, fork, &failed, variables, visits),
             },
             Some(held) => match fails {
@@ -249,7 +256,7 @@ impl Walk<'_> {
         ensures passes { Passes (through_first self.now spot fork.now (changed variables.old.ranges.items held.now))
             variables.new.ranges.items result }
         ensures on { GoesOn self.now.plan.now variables.old variables.new }
-        ensures visits { OnOk result (Gathers (scope_in self.now.plan.now)
+        ensures visits { WithMemory result (Gathers (scope_in self.now.plan.now)
             (ComesIn self.now (first_spot spot) (body_of fork.now.yes.now)
             (ranges_in self.now.plan.now (changed variables.old.ranges.items held.now)))
             visits.old visits.new) }
@@ -275,7 +282,7 @@ impl Walk<'_> {
         ensures passes { Passes (through_second self.now spot fork.now (changed variables.old.ranges.items failed.now))
             variables.new.ranges.items result }
         ensures on { GoesOn self.now.plan.now variables.old variables.new }
-        ensures visits { OnOk result (Gathers (scope_in self.now.plan.now)
+        ensures visits { WithMemory result (Gathers (scope_in self.now.plan.now)
             (ComesIn self.now (second_spot spot fork.now) (body_of fork.now.no.now)
             (ranges_in self.now.plan.now (changed variables.old.ranges.items failed.now)))
             visits.old visits.new) }
@@ -304,7 +311,7 @@ impl Walk<'_> {
             (changed variables.old.ranges.items changes.now))
             variables.new.ranges.items result }
         ensures on { GoesOn self.now.plan.now variables.old variables.new }
-        ensures visits { OnOk result (Gathers (scope_in self.now.plan.now)
+        ensures visits { WithMemory result (Gathers (scope_in self.now.plan.now)
             (ComesIn self.now spot (body_of body.now)
             (ranges_in self.now.plan.now (changed variables.old.ranges.items changes.now)))
             visits.old visits.new) }
@@ -333,7 +340,7 @@ impl Walk<'_> {
             (changed variables.old.ranges.items failed.now))
             variables.new.ranges.items result }
         ensures on { GoesOn self.now.plan.now variables.old variables.new }
-        ensures visits { OnOk result (Gathers (scope_in self.now.plan.now)
+        ensures visits { WithMemory result (Gathers (scope_in self.now.plan.now)
             (ComesInBoth self.now spot fork.now
             (changed variables.old.ranges.items held.now)
             (changed variables.old.ranges.items failed.now))
@@ -349,7 +356,7 @@ impl Walk<'_> {
         }
     }
 
-    /// Walks the first list, and from the ranges of before it the second one.
+    /// Walks the first list, and from the ranges of before it the second one, also where the first stops.
     #[cycle(statements)]
     #[inline(never)]
     fn walk_second_last(
@@ -369,7 +376,7 @@ impl Walk<'_> {
             (changed variables.old.ranges.items failed.now))
             variables.new.ranges.items result }
         ensures on { GoesOn self.now.plan.now variables.old variables.new }
-        ensures visits { OnOk result (Gathers (scope_in self.now.plan.now)
+        ensures visits { WithMemory result (Gathers (scope_in self.now.plan.now)
             (ComesInBoth self.now spot fork.now
             (changed variables.old.ranges.items held.now)
             (changed variables.old.ranges.items failed.now))
@@ -378,18 +385,22 @@ impl Walk<'_> {
         let outset = variables.notes.len();
         let at = spot.at;
         let first = Spot { at: at + 1, ..spot };
-        let next = self.walk_branch(first, fork.yes, held, variables, visits)?;
+        let second = Spot {
+            at: at + 1 + written(fork.yes),
+            ..spot
+        };
+        let before = self.walk_branch(first, fork.yes, held, variables, visits);
         let mark = variables.notes.len();
         variables.return_to(outset)?;
-        let second = Spot { at: next, ..spot };
-        let next = self.walk_branch(second, fork.no, failed, variables, visits)?;
+        let behind = self.walk_branch(second, fork.no, failed, variables, visits);
+        let next = behind_lists(before, behind)?;
         match meet(fork.root, variables, mark) {
             Ok(()) => Ok(next),
-            Err(stop) => Err(fault_of(stop, spot)),
+            Err(stop) => Err(WalkStop::at_node(self.alloc, stop, spot)),
         }
     }
 
-    /// Walks the second list, and from the ranges of before it the first one, whose fault counts before that of the second.
+    /// Walks the second list, and from the ranges of before it the first one, also where the second stops.
     #[cycle(statements)]
     #[inline(never)]
     fn walk_first_last(
@@ -409,7 +420,7 @@ impl Walk<'_> {
             (changed variables.old.ranges.items failed.now))
             variables.new.ranges.items result }
         ensures on { GoesOn self.now.plan.now variables.old variables.new }
-        ensures visits { OnOk result (Gathers (scope_in self.now.plan.now)
+        ensures visits { WithMemory result (Gathers (scope_in self.now.plan.now)
             (ComesInBoth self.now spot fork.now
             (changed variables.old.ranges.items held.now)
             (changed variables.old.ranges.items failed.now))
@@ -425,11 +436,11 @@ impl Walk<'_> {
         let behind = self.walk_branch(second, fork.no, failed, variables, visits);
         let mark = variables.notes.len();
         variables.return_to(outset)?;
-        self.walk_branch(first, fork.yes, held, variables, visits)?;
-        let next = behind?;
+        let before = self.walk_branch(first, fork.yes, held, variables, visits);
+        let next = behind_lists(before, behind)?;
         match meet(fork.root, variables, mark) {
             Ok(()) => Ok(next),
-            Err(stop) => Err(fault_of(stop, spot)),
+            Err(stop) => Err(WalkStop::at_node(self.alloc, stop, spot)),
         }
     }
 
@@ -447,7 +458,7 @@ impl Walk<'_> {
         ensures passes { EnvAnswer self.now (executed self.now name.now chain variables.old.ranges.items)
             variables.new.ranges.items result }
         ensures on { GoesOn self.now.plan.now variables.old variables.new }
-        ensures visits { OnOk result (Gathers (scope_in self.now.plan.now)
+        ensures visits { WithMemory result (Gathers (scope_in self.now.plan.now)
             (ComesInCall self.now name.now chain
             (ranges_in self.now.plan.now variables.old.ranges.items))
             visits.old visits.new) }
@@ -458,7 +469,7 @@ impl Walk<'_> {
             chain,
         };
         if chain == 0 {
-            return Err(nowhere_at(start, 0));
+            return Err(self.nowhere_at(start, 0));
         }
         match method_body(self.plan.typed(), name) {
             Some(body) => {
@@ -469,9 +480,35 @@ impl Walk<'_> {
                 self.walk_body(within, body, variables, visits)?;
                 Ok(())
             }
-            None => Err(nowhere_at(start, 0)),
+            None => Err(self.nowhere_at(start, 0)),
         }
     }
+
+    /// That a node can't be walked.
+    fn nowhere_at(&self, spot: Spot, node: u32) -> WalkStop
+        ensures { RefusesAt (At node Wide) spot result }
+    {
+        let stop = Stop::At {
+            node,
+            cause: RangeCause::Wide,
+        };
+        WalkStop::at_node(self.alloc, stop, spot)
+    }
+}
+
+/// The number behind two lists, each of which was walked: that of the second, or the stop of the first, which counts before that of
+/// the second. Where memory ran out in either, that is told.
+fn behind_lists(
+    before: Result<u32, WalkStop>,
+    behind: Result<u32, WalkStop>,
+) -> Result<u32, WalkStop>
+    ensures { IsBehindLists before behind result }
+{
+    if let Err(WalkStop::Memory) = &behind {
+        return behind;
+    }
+    before?;
+    behind
 }
 
 fn method_at(plan: &Typed, number: usize) -> Option<&Method>
@@ -519,58 +556,4 @@ fn at_three_places(range: Abs) -> Abs
         FACTOR_PLACES,
         FACTOR_PLACES,
     )
-}
-
-/// The fault of an expression's node at its statement.
-fn fault_of(stop: Stop, spot: Spot) -> WalkStop
-    ensures { result ≡ fault_of stop spot }
-{
-    match stop {
-        Stop::At { node, cause } => WalkStop::At {
-            place: place_at(spot, node),
-            cause,
-        },
-        Stop::AtOne {
-            node,
-            cause,
-            operand,
-        } => WalkStop::AtOne {
-            place: place_at(spot, node),
-            cause,
-            operand,
-        },
-        Stop::AtTwo {
-            node,
-            cause,
-            first,
-            second,
-        } => WalkStop::AtTwo {
-            place: place_at(spot, node),
-            cause,
-            first,
-            second,
-        },
-        Stop::Memory => WalkStop::Memory,
-    }
-}
-
-/// That a node can't be walked.
-fn nowhere_at(spot: Spot, node: u32) -> WalkStop
-    ensures { result ≡ WalkStop.At (place spot.method spot.at node) Wide }
-{
-    WalkStop::At {
-        place: place_at(spot, node),
-        cause: RangeCause::Wide,
-    }
-}
-
-fn place_at(spot: Spot, node: u32) -> Place
-    ensures { result ≡ place spot.method spot.at node }
-{
-    let Spot { method, at, .. } = spot;
-    Place {
-        method,
-        stmt: at,
-        node,
-    }
 }

@@ -1,9 +1,12 @@
 //! What the analysis answers.
+ghost use Rattle.std.specs.Prelude.{◌≡◌, [], alloc_error};
+ghost use Rattle.interval_analysis.specs.declared.fault.RangeFault.TheVariants.{Memory};
 
 use crate::fault::RangeFault;
 use crate::value_range::ValueRange;
 use interval_num::Abs;
 use pap_tree::Name;
+use std::alloc::{AllocError, Global};
 use std::collections::{BTreeMap, BTreeSet};
 
 /// An output with the range in which its values lie.
@@ -37,13 +40,37 @@ pub struct Survey {
     pub exits: BTreeSet<(Name, u32, bool)>,
 }
 
-/// Why a plan has no survey.
+/// Why a plan has no survey, and what is known of it up to where its walk stops. Where an output may be beyond its bound that is all
+/// of the plan, and nothing where memory runs out.
 #[derive(Drop)]
 pub struct RefusedSurvey {
-    /// Why its ranges are refused; `Memory` also where memory runs out for the list below.
+    /// Why its ranges are refused; `Memory` also where memory runs out for what follows.
     pub fault: RangeFault,
     /// Of a fault at a node the ranges of the values that its operands have there, from the left: one of an item's index or of the
     /// only operand, two of both operands, of the sides of a comparison or of the parts of a conditional. Empty where a leaf fails
     /// or two branches of an IF don't meet, and where the fault has no node.
     pub operands: Vec<ValueRange>,
+    /// The statements to which the walk comes, as in [`Survey`]. It comes to both lists of an IF that can be reached, also where the
+    /// first one stops, and to nothing behind a statement that stops.
+    pub reached: BTreeSet<(Name, u32)>,
+    /// The least range of what each EVAL among them puts at all visits at which it can't fail.
+    pub values: BTreeMap<(Name, u32), ValueRange>,
+    /// The exits of IFs that are open at some visit at which the test can't fail.
+    pub exits: BTreeSet<(Name, u32, bool)>,
+}
+
+impl RefusedSurvey {
+    /// That memory ran out; nothing is known.
+    pub(crate) fn without_memory(alloc: Global) -> RefusedSurvey
+        ensures fault { result.fault ≡ Memory alloc_error }
+        ensures operands { result.operands.items ≡ [] }
+    {
+        RefusedSurvey {
+            fault: RangeFault::Memory(AllocError),
+            operands: Vec::new(alloc),
+            reached: BTreeSet::new(alloc),
+            values: BTreeMap::new(alloc),
+            exits: BTreeSet::new(alloc),
+        }
+    }
 }

@@ -1,6 +1,6 @@
 //! What is kept of the statements to which a walk comes.
 ghost use Rattle.std.specs.Prelude.{IsNone, OnOk};
-ghost use Rattle.interval_analysis.specs.private.VisitViews.{AddsEval, AddsExit, AddsIf, AddsPlace, AddsRange, IsNothingKnown, KeepsEval, KeepsExecute, KeepsIf, PutsInPlace};
+ghost use Rattle.interval_analysis.specs.private.VisitViews.{AddsEval, AddsExit, AddsIf, AddsPlace, AddsRange, IsNothingKnown, KeepsEval, KeepsPlace, KeepsIf, PutsInPlace};
 
 use crate::branches::Branches;
 use crate::statements::Spot;
@@ -129,10 +129,10 @@ impl Visits {
         }
     }
 
-    /// Keeps that the walk has come to an EXECUTE.
+    /// Keeps that the walk has come to a statement, of which it finds nothing else: an EXECUTE, or one whose expression may fail.
     #[inline(never)]
-    pub fn keep_execute(&mut self, spot: &Spot) -> Result<(), AllocError>
-        ensures { OnOk result (KeepsExecute spot.now self.old self.new) }
+    pub fn keep_place(&mut self, spot: &Spot) -> Result<(), AllocError>
+        ensures { OnOk result (KeepsPlace spot.now self.old self.new) }
     {
         match &mut self.known {
             Some(known) => known.add_place(spot),

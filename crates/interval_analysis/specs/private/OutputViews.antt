@@ -9,7 +9,7 @@ use Rattle.interval_walk.specs.Ranges.{Ranges}
 use Rattle.interval_walk.specs.Failures.{WalkFault}
 use Rattle.interval_analysis.specs.Answers.{named_range}
 use Rattle.interval_analysis.specs.private.PlanViews.{ranges_in, with_names}
-use Rattle.interval_analysis.specs.private.StopViews.{IsStopOf}
+use Rattle.interval_analysis.specs.private.StopViews.{FaultOf}
 use Rattle.interval_analysis.specs.declared.stop.WalkStop.{WalkStop}
 use Rattle.interval_analysis.specs.declared.verdict.OutputRange.{OutputRange}
 use Rattle.std.proofs.Common.{Vec, Global}
@@ -28,4 +28,4 @@ outputs_in p rs = unless_unbounded (output_ranges (flowchart_of p) (ranges_in p 
 -- the definition's answer, as the program gives it; memory is free
 abbrev pub OutputAnswer : Result Ranges WalkFault → Result (Vec OutputRange Global) WalkStop → Type 0
 OutputAnswer r (Ok v) = r ≡ Ok (map named_range v.items)
-OutputAnswer r (Err stop) = IsStopOf r stop
+OutputAnswer r (Err stop) = FaultOf r stop

@@ -24,15 +24,13 @@ use Rattle.interval_walk.specs.Branches.{Branches, either_way}
 use Rattle.interval_walk.specs.Ranged.{ranged}
 use Rattle.interval_walk.specs.Walked.{RangeCalls, walked, range_calls_of, assigned_range, joined}
 use Rattle.pap_tree.specs.private.TreeViews.{methods_in, if_of}
-use Rattle.interval_analysis.specs.declared.expressions.Stop.{Stop}
-use Rattle.interval_analysis.specs.declared.expressions.Stop.TheVariants as stops
 use Rattle.interval_analysis.specs.declared.expressions.Walk.{Walk}
 use Rattle.interval_analysis.specs.declared.statements.Fork.{Fork}
 use Rattle.interval_analysis.specs.declared.statements.Spot.{Spot}
 use Rattle.interval_analysis.specs.declared.stop.WalkStop.{WalkStop}
-use Rattle.interval_analysis.specs.declared.stop.WalkStop.TheVariants as walks
 use Rattle.pap_types.specs.private.ScopeViews.{scope_in}
 use Rattle.interval_analysis.specs.private.PlanViews.{ranges_in}
+use Rattle.interval_analysis.specs.private.StopViews.{FaultOf}
 
 -- ---- the definition, for the plan of a walk, from ranges by number
 
@@ -128,13 +126,6 @@ pub record IsMethodBody (p : PlanText) (b : Body) : Type 0 where
 
 -- ---- what is answered; memory is free
 
-abbrev pub FaultOf : Result Ranges WalkFault → WalkStop → Type 0
-FaultOf r (walks.At p cause) = r ≡ Err (node_fails p cause [])
-FaultOf r (walks.AtOne p cause a) = r ≡ Err (node_fails p cause (a ∷ []))
-FaultOf r (walks.AtTwo p cause a b) = r ≡ Err (node_fails p cause (a ∷ b ∷ []))
-FaultOf r (walks.Output x) = ⊥
-FaultOf r walks.Memory = ⊤
-
 -- the ranges behind what is walked
 abbrev pub EnvAnswer : Walk → Result Ranges WalkFault → List Interval → Result (Unit {0}) WalkStop → Type 0
 EnvAnswer w r new (Ok u) = r ≡ Ok (ranges_in w.plan.now new)
@@ -186,13 +177,6 @@ through_second w spot f rs = record {
 -- through both, each from its own ranges
 abbrev pub through_both : Walk → Spot → Fork → List Interval → List Interval → Passage
 through_both w spot f rs ss = record { plan = w.plan.now; ranges = met_in w spot f rs ss; next = end_of spot f }
-
--- the fault of an expression at its statement
-abbrev pub fault_of : Stop → Spot → WalkStop
-fault_of (stops.At node cause) spot = walks.At (place spot.method spot.at node) cause
-fault_of (stops.AtOne node cause a) spot = walks.AtOne (place spot.method spot.at node) cause a
-fault_of (stops.AtTwo node cause a b) spot = walks.AtTwo (place spot.method spot.at node) cause a b
-fault_of stops.Memory spot = walks.Memory
 
 -- ---- where two branches meet
 

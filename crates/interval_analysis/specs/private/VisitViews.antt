@@ -15,6 +15,7 @@ use Rattle.interval_analysis.specs.declared.expressions.Walk.{Walk}
 use Rattle.interval_analysis.specs.declared.statements.Fork.{Fork}
 use Rattle.interval_analysis.specs.declared.statements.Spot.{Spot}
 use Rattle.interval_analysis.specs.declared.value_range.ValueRange.{ValueRange}
+use Rattle.interval_analysis.specs.declared.verdict.RefusedSurvey.{RefusedSurvey}
 use Rattle.interval_analysis.specs.declared.verdict.Survey.{Survey}
 use Rattle.interval_analysis.specs.declared.visits.Known.{Known}
 use Rattle.interval_analysis.specs.declared.visits.Visits.{Visits}
@@ -33,11 +34,12 @@ pub record IsNothing (k : Known) : Type 0 where
 abbrev pub IsNothingKnown : Visits → Type 0
 IsNothingKnown v = IsSomeAnd v.known IsNothing
 
--- a survey says what is known
-pub record SaysKnown (k : Known) (s : Survey) : Type 0 where
-  pub reached : s.reached ≡ k.reached
-  pub values : s.values ≡ k.values
-  pub exits : s.exits ≡ k.exits
+-- what a survey says of the statements, and what a refused one does
+abbrev pub survey_known : Survey → Known
+survey_known s = record { reached = s.reached; values = s.values; exits = s.exits }
+
+abbrev pub refused_known : RefusedSurvey → Known
+refused_known r = record { reached = r.reached; values = r.values; exits = r.exits }
 
 -- besides what was known, exactly this is: that statements are reached, that ranges are put there, and that exits are open
 pub record AddsThese (Reaches : StatementPlace → Type 0) (Puts : StatementPlace → ValueRange → Type 0)
@@ -93,8 +95,8 @@ AddsIf spot branches was now =
     (λ q. (place_in spot ≡ exit_statement q) × IsSome (if q.2 then branches.holds else branches.fails)) was now
 
 -- the same where something is kept
-abbrev pub KeepsExecute : Spot → (was now : Visits) → Type 0
-KeepsExecute spot was now = IfSome was.known (λ k. IsSomeAnd now.known (AddsPlace spot k))
+abbrev pub KeepsPlace : Spot → (was now : Visits) → Type 0
+KeepsPlace spot was now = IfSome was.known (λ k. IsSomeAnd now.known (AddsPlace spot k))
 
 abbrev pub KeepsEval : Spot → Interval → (was now : Visits) → Type 0
 KeepsEval spot range was now = IfSome was.known (λ k. IsSomeAnd now.known (AddsEval spot range k))

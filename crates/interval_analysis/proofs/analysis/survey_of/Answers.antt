@@ -2,4 +2,4 @@ use Rattle.std.proofs.Common.{refl}
 use Rattle.interval_analysis.proofs.analysis.survey_of.Goals as goal
 
 pub returns-clause-known : goal.returns-clause-known
-returns-clause-known c = rw c.in-Some.is (record { reached = refl; values = refl; exits = refl })
+returns-clause-known c = rw (c.in-Some.is) refl
