@@ -1,5 +1,6 @@
 //! The fields of a message, cut out of its line.
-ghost use Rattle.std.specs.Prelude.{◌≡◌, ◌<◌, ◌+◌, ◌++◌, ◌==◌, if◌then◌else◌, not, codes, drop, length, IsTrue, MatchOption};
+ghost use Rattle.std.specs.Prelude.{◌≡◌, ◌<◌, ◌+◌, ◌++◌, ◌==◌, if◌then◌else◌, not};
+ghost use Rattle.std.specs.Prelude.{codes, drop, length, IsTrue, MatchOption};
 ghost use Rattle.std.specs.Fmt.{decimal};
 ghost use Rattle.messages.specs.Fields.{file_names, HasNoPlace, HasNoRefusal, HaveOneReading, IsReadFrom};
 ghost use Rattle.messages.specs.Lines.{help_text};
@@ -112,7 +113,8 @@ fn read_number_to<'a>(text: &'a str, mark: &str) -> Option<(u64, &'a str)>
 
 /// The number that these digits write, as the programs write numbers.
 fn read_number(digits: &str) -> Option<u64>
-    ensures { MatchOption result (WriteNoNumber digits.now) (λ number. digits.now ≡ decimal number) }
+    ensures { MatchOption result (WriteNoNumber digits.now)
+        (λ number. digits.now ≡ decimal number) }
 {
     let Ok(number) = digits.parse::<u64>() else {
         return None;
