@@ -13,7 +13,7 @@ style_lines =
     codes "h2{font-size:19px;margin:28px 0 10px}h3{font:600 16px/1.3 ui-monospace,\"DejaVu Sans Mono\",Menlo,Consolas,monospace;margin:0}" ∷
     codes "p{margin:4px 0;max-width:75ch}.lead,.sub,.com,.by{color:var(--mute)}.com,.by,.sub{font-size:13.5px}" ∷
     codes "a{color:var(--link)}a:focus-visible{outline:2px solid var(--link);outline-offset:2px}" ∷
-    codes "a:focus-visible .x{stroke-width:3}" ∷
+    codes "svg a:focus-visible{outline-offset:0}.s a:focus-visible .x{stroke-width:3}" ∷
     codes ".skip{position:absolute;left:-999px}.skip:focus{left:8px;top:8px;background:var(--bg);padding:6px}" ∷
     codes ".ok{border-left:4px solid var(--ok);padding:4px 10px}" ∷
     codes ".no{border-left:4px solid var(--bad);background:var(--badbg);padding:8px 12px;margin:8px 0;max-width:90ch}" ∷
@@ -30,7 +30,7 @@ style_lines =
     codes ".tab span{display:inline-block;margin:0 12px 0 0;font:12.5px/1.5 ui-monospace,\"DejaVu Sans Mono\",Menlo,Consolas,monospace}" ∷
     codes ".tab i{font-style:normal;color:var(--mute);font-size:10px;margin-right:4px}" ∷
     codes "#methods{display:flex;flex-wrap:wrap;align-items:flex-start;gap:36px 40px}#methods h2{flex:0 0 100%;margin-bottom:-30px}#methods>.com{flex:0 0 100%}.key{flex:0 0 100%;max-width:none;color:var(--mute);font-size:13px}.key+.key{margin-top:-26px}.m{min-width:280px;max-width:100%;padding-top:12px;border-top:1px solid var(--rule)}.m.bad h3{color:var(--bad)}" ∷
-    codes ".fig{margin-top:12px}" ∷
+    codes ".fig{margin-top:12px;overflow-x:auto}.fig svg{max-width:none}" ∷
     codes "svg{display:block;max-width:100%;height:auto;font:12px ui-monospace,\"DejaVu Sans Mono\",Menlo,Consolas,\"Liberation Mono\",monospace}" ∷
     codes "svg text{fill:var(--fg)}tspan{fill:var(--mute)}.s.bad tspan{fill:inherit}" ∷
     codes ".l{fill:none;stroke:var(--line);stroke-width:1.3}.a{fill:var(--line)}" ∷
@@ -47,7 +47,7 @@ style_lines =
     codes ".run table{display:inline-table;width:auto;vertical-align:top;margin:0 40px 12px 0}.run caption{text-align:left;font-weight:600;padding:0 0 4px}.run td{text-align:right}.run td:nth-child(3){text-align:left;color:var(--mute)}" ∷
     codes "#run h3,#coverage h3{font-family:inherit}#coverage h3{margin-top:14px}#coverage table{width:auto}#coverage caption{text-align:left;font-weight:600;padding:0 0 4px}ol.run{max-height:30em;overflow:auto;margin:4px 0 12px;padding:0 0 0 4.5em;border:1px solid var(--rule);font-size:13px;line-height:1.7}ol.run span{color:var(--mute);font-size:12px}ol.run em{font-style:normal;font-weight:700;color:var(--ran);margin:0 6px;font-family:ui-monospace,\"DejaVu Sans Mono\",Menlo,Consolas,monospace;font-size:12.5px}li:target{outline:2px solid var(--ran)}" ∷
     codes ".blocked{border-left:4px solid var(--bad);padding:4px 10px}" ∷
-    codes ".traced :is(.s,.b,.d,.l,.a,.y,.e):not(.ran){opacity:.45}.b.ran,.d.ran,.s.ran .x,.s.ran .xx{stroke:var(--ran);stroke-width:1.8}.l.ran{stroke:var(--ran);stroke-width:2.4}.a.ran{fill:var(--ran)}.s.ran .v{fill:var(--ran);font-weight:700}svg .y.ran,svg .e.ran{fill:var(--ran);font-weight:700}.s.ran a .p{fill:var(--link);text-decoration:underline}" ∷
+    codes ".traced .fig :is(.b,.d,.l,.a):not(.ran),.traced .s:not(.ran) :is(.x,.xx){opacity:.45}.traced .s:not(.ran,:target) :is(text,tspan){fill:var(--mute)}.b.ran,.d.ran,.s.ran .x,.s.ran .xx{stroke:var(--ran);stroke-width:1.8}.l.ran{stroke:var(--ran);stroke-width:2.4}.a.ran{fill:var(--ran)}.s.ran .v{fill:var(--ran);font-weight:700}svg .y.ran,svg .e.ran{fill:var(--ran);font-weight:700}.s.ran a .p{fill:var(--link);text-decoration:underline}" ∷
     codes ".b.missed,.d.missed,.s.missed .x,.s.missed .xx{fill:var(--badbg);stroke:var(--bad);stroke-width:1.8;stroke-dasharray:6 3}.s.missed .v{fill:var(--bad);font-weight:700}svg .missed:is(.y,.e){fill:var(--bad);font-size:10px}" ∷
     codes ".b.dead,.d.dead,.s.dead .x,.s.dead .xx{fill:var(--head);stroke:var(--mute);stroke-dasharray:3 3}.s.dead text{fill:var(--mute)}.s.dead .v,svg .dead:is(.y,.e){font-weight:700}.ranged .l{stroke:var(--mute);stroke-width:1;stroke-dasharray:3 3}.ranged .a{fill:var(--mute)}.ranged .l.ran{stroke:var(--line);stroke-width:1.3;stroke-dasharray:none}.ranged .a.ran{fill:var(--line)}" ∷
     codes "@media (min-width:1150px){.cols{display:grid;grid-template-columns:200px minmax(0,1fr);gap:32px}nav{position:sticky;top:0;align-self:start;max-height:100vh;overflow:auto;padding-bottom:20px}nav ul{columns:auto}}" ∷
@@ -59,7 +59,7 @@ style_lines =
     codes ".diff .same :is(th,code){color:var(--mute);font-weight:400}.diff .changed th{color:var(--link)}.diff .gone th{color:var(--bad)}.diff .new th{color:var(--ok)}" ∷
     codes "@media (max-width:899px){.diff,.diff :is(tbody,tr,td,tbody th){display:block;width:auto}.diff thead{position:absolute;left:-999px}.diff :is(td,tbody th){border:0;padding:1px 0}.diff td{padding-left:12px}.diff td:empty{display:none}.diff tr{border-bottom:1px solid var(--rule);padding:3px 0}}" ∷
     codes "@page{size:A4 portrait;margin:10mm 12mm}" ∷
-    codes "@media print{:root{color-scheme:light;--bg:#fff;--fg:#000;--mute:#555;--rule:#bbb;--line:#333;--box:#fff;--boxl:#333;--dec:#fff6dc;--decl:#7a5900;--exe:#e8f1fc;--exel:#1d4f91;--term:#e9ecef;--link:#123f7c;--bad:#b00010;--badbg:#fde8e8;--ok:#1d7a3d;--ran:#5a2599;--head:#f0f0f0}body{padding:0;font-size:10pt}table{font-size:8.5pt}code,.num,td:nth-child(2),tbody th[scope=row],.tab span{font-size:8pt}nav ul{font-size:8.5pt}th,td{padding:1.5pt 8pt 1.5pt 0}.cols{display:block}.skip{display:none}#methods{display:block}#methods h2{margin-bottom:8px}.key+.key{margin-top:4px}tbody tr:first-child{break-after:avoid}.m{break-inside:avoid;margin-bottom:16px}.fig{zoom:.85}svg{break-inside:avoid}h2,h3,.key,.com,.by{break-after:avoid}tr{break-inside:avoid}ol.run{max-height:none;overflow:visible}.scroll{overflow:visible}.scroll table{min-width:0}a{text-decoration:none}}" ∷
+    codes "@media print{:root{color-scheme:light;--bg:#fff;--fg:#000;--mute:#555;--rule:#bbb;--line:#333;--box:#fff;--boxl:#333;--dec:#fff6dc;--decl:#7a5900;--exe:#e8f1fc;--exel:#1d4f91;--term:#e9ecef;--link:#123f7c;--bad:#b00010;--badbg:#fde8e8;--ok:#1d7a3d;--ran:#5a2599;--head:#f0f0f0}body{padding:0;font-size:10pt}table{font-size:8.5pt}code,.num,td:nth-child(2),tbody th[scope=row],.tab span{font-size:8pt}nav ul{font-size:8.5pt}th,td{padding:1.5pt 8pt 1.5pt 0}.cols{display:block}.skip{display:none}#methods{display:block}#methods h2{margin-bottom:8px}.key+.key{margin-top:4px}tbody tr:first-child{break-after:avoid}.m{break-inside:avoid;margin-bottom:16px}.fig{zoom:.85;overflow:visible}.fig svg{max-width:100%}svg{break-inside:avoid}h2,h3,.key,.com,.by{break-after:avoid}tr{break-inside:avoid}ol.run{max-height:none;overflow:visible}.scroll{overflow:visible}.scroll table{min-width:0}a{text-decoration:none}}" ∷
     []
 
 -- the style sheet of each page: no rule of it hides a verdict
