@@ -1,2 +1,4 @@
 mod Besides
+pub mod Laws
 mod Shown
+mod StopLemmas

@@ -1,5 +1,5 @@
 -- In which file of a plan a refusal stands, at which byte where its place is pinned to one, and how its words end.
-use Rattle.std.specs.Prelude.{◌≡◌, ◌<◌, ◌⊎◌, ℕ, List, ◌++◌, codes, map, slice_get, Some, None, IfSome, IsTrue, ⊤}
+use Rattle.std.specs.Prelude.{◌≡◌, ℕ, List, ◌++◌, codes, map, Some, None, IfSome, IsTrue, ⊤}
 use Rattle.pap_reader.specs.declared.fault.Which.{Which}
 use Rattle.pap_reader.specs.declared.fault.Which.TheVariants as which
 use Rattle.pap_reader.specs.declared.fault.ReadFault.{ReadFault}
@@ -15,6 +15,7 @@ use Rattle.pap_plan.specs.Acceptance.{IsRefused}
 use Rattle.plain_words.specs.Lines.{IsOneLine, EndsWith}
 use Rattle.plain_words.specs.Places.{PlanFiles, PlanPlace, in_plan, in_ranges, BeginsAt}
 use Rattle.plain_words.specs.Helps.{help_of}
+use Rattle.plain_words.specs.Strays.{IsStopByte}
 
 -- the place is one in the flowchart's file, whichever
 abbrev pub IsInPlan : PlanPlace → Type 0
@@ -32,16 +33,7 @@ IsPlaceOfExcess which.Bytes place = place ≡ in_plan None
 IsPlaceOfExcess which.Depth place = place ≡ in_plan None
 IsPlaceOfExcess _ place = IsInPlan place
 
--- behind the first byte of a tag a < or & stands at this byte, which would have to be escaped in a value
-pub record IsUnescapedAt (plan : List ℕ) (at to : ℕ) : Type 0 where
-  pub behind : at < to
-  pub sign : (slice_get plan to ≡ Some 60) ⊎ (slice_get plan to ≡ Some 38)
-
--- the byte at which what isn't read is shown: its first, or in a tag that of a < or & that isn't escaped
-abbrev pub IsStopByte : List ℕ → ℕ → ℕ → Type 0
-IsStopByte plan at to = (to ≡ at) ⊎ IsUnescapedAt plan at to
-
--- what isn't read stands at its byte
+-- what isn't read stands at its byte, or at the sign in a value of it that would have to be escaped
 abbrev pub IsPlaceOfFault : List ℕ → ReadFault → PlanPlace → Type 0
 IsPlaceOfFault plan (reads.Text at) place = (to : ℕ) × IsStopByte plan at to × (place ≡ in_plan (Some to))
 IsPlaceOfFault plan (reads.Element at) place = place ≡ in_plan (Some at)

@@ -1,2 +1,3 @@
 pub mod FoundViews
 pub mod SiteViews
+pub mod StopViews

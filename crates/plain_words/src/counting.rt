@@ -19,7 +19,7 @@ pub fn position(text: &[u8], at: usize) -> Position
 }
 
 /// The line behind some bytes.
-fn line_number(before: &[u8]) -> usize
+pub(crate) fn line_number(before: &[u8]) -> usize
     ensures { result ≡ line_number before.now }
 {
     before.iter().filter(|byte| is_line_feed(**byte)).count() + 1

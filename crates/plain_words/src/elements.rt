@@ -1,16 +1,18 @@
 //! Where the elements of a plan's file are refused.
-ghost use Rattle.std.specs.Prelude.{◌≡◌, ◌⊎◌, Some, IfOk, IfSome, slice_get};
-ghost use Rattle.std.specs.Bool.{OnTrue};
+ghost use Rattle.std.specs.Prelude.{◌≡◌, ◌≤◌, Some, IfOk, IfSome, drop, length};
 ghost use Rattle.pap_reader.specs.declared.fault.ReadFault.TheVariants.{Text};
 ghost use Rattle.plain_words.specs.Places.{in_plan};
-ghost use Rattle.plain_words.specs.Refusals.{IsPlaceOfFault, IsPlaceOfExcess, IsStopByte};
+ghost use Rattle.plain_words.specs.Strays.{IsStopByte};
+ghost use Rattle.plain_words.specs.Refusals.{IsPlaceOfFault, IsPlaceOfExcess};
+ghost use Rattle.plain_words.specs.private.StopViews.{StopsAs};
 ghost use Rattle.plain_words.specs.private.FoundViews.{place_of, HasTag, IsExcessByte};
 
 use crate::encoding::is_utf16;
 use crate::found::Found;
 use crate::place::TextFile;
-use crate::quotes::write_quoted;
-use crate::tags::{TagStop, first_line, tag_stop, write_attribute_fault};
+use crate::quotes::{first_line, write_line, write_quoted};
+use crate::stops::{TagStop, begins_with_sign, tag_stop};
+use crate::tags::write_attribute_fault;
 use pap_reader::{ReadFault, Which};
 use pap_tree::{
     MOST_CONSTANTS, MOST_INPUTS, MOST_INTERNALS, MOST_METHODS, MOST_OUTPUTS, MOST_STATEMENTS,
@@ -45,47 +47,41 @@ pub(crate) fn find_element(
     Ok(found)
 }
 
-/// Where no tag, comment or white space begins, or where a tag has a < or & that isn't escaped; what is wrong there is appended.
+/// Where no tag, comment or white space begins, or where a value of a tag has a sign that would have to be escaped; what is wrong
+/// there is appended.
 fn find_text(plan: TextFile<'_>, at: usize, told: &mut String) -> Result<Found, AllocError>
     ensures { IfOk result
         (λ found. IsPlaceOfFault plan.entry.bytes.now (Text at) (place_of found)) }
 {
     let text = text_from(plan.bytes, at);
+    let stop = tag_stop(text);
+    let found = Found::in_plan(Some(stop_byte(plan.bytes, at, stop)));
     if let Some(help) = text_help(text) {
         told.push_str("expected a tag, a comment or white space")?;
         write_line(told, text)?;
-        return Ok(Found::in_plan(Some(at)).with_help(help));
+        return Ok(found.with_help(help));
     }
-    let stop = tag_stop(text);
     stop.write(told)?;
-    if stop.attribute.is_some() {
+    if stop.value.is_some() {
         told.push_str(", in the tag ")?;
         write_quoted(told, first_line(text), 0)?;
     }
-    let to = stop_byte(plan.bytes, at, stop);
-    Ok(Found::in_plan(Some(to)).with_help(stop.help()))
+    Ok(found.with_help(stop.help()))
 }
 
-/// The byte at which a tag that begins at a byte is shown to stop: that of a < or & that isn't escaped in a value, and else the first.
+/// The byte at which what isn't read is shown: in a tag that of a sign in a value that would have to be escaped, and else the first.
 fn stop_byte(plan: &[u8], at: usize, stop: TagStop<'_>) -> usize
+    requires stops { StopsAs (drop at plan.now) stop }
+    requires within { length stop.left.now ≤ length plan.now }
     ensures { IsStopByte plan.now at result }
 {
-    let to = plan.len().saturating_sub(stop.left.len());
-    if stop.is_in_value() && at < to && is_sign(plan, to) {
-        to
+    let Some(front) = stop.value else {
+        return at;
+    };
+    if begins_with_sign(front.text, stop.left) {
+        plan.len() - stop.left.len()
     } else {
         at
-    }
-}
-
-/// Whether a < or & stands at a byte.
-fn is_sign(plan: &[u8], at: usize) -> bool
-    ensures { OnTrue result
-        ((slice_get plan.now at ≡ Some 60) ⊎ (slice_get plan.now at ≡ Some 38)) }
-{
-    match plan.get(at) {
-        Some(byte) => *byte == b'<' || *byte == b'&',
-        None => false,
     }
 }
 
@@ -105,16 +101,6 @@ fn find_attribute(plan: TextFile<'_>, at: usize, told: &mut String) -> Result<Fo
         also: name_form(element),
         ..tag.with_help(needed_attributes(element))
     })
-}
-
-/// Appends what stands in the line with which a text begins.
-fn write_line(told: &mut String, text: &[u8]) -> Result<(), AllocError> {
-    let line = first_line(text);
-    if line.is_empty() {
-        return Ok(());
-    }
-    told.push_str(", at ")?;
-    write_quoted(told, line, 0)
 }
 
 /// What helps where no tag begins with a text. `None` where a tag that isn't well formed does.
@@ -188,7 +174,10 @@ fn home_of(element: Option<Element>) -> &'static str {
 }
 
 /// The text from a place on.
-fn text_from(file: &[u8], at: usize) -> &[u8] {
+fn text_from(file: &[u8], at: usize) -> &[u8]
+    ensures from { result.now ≡ drop at file.now }
+    ensures within { length result.now ≤ length file.now }
+{
     file.get(at..).unwrap_or(&[])
 }
 

@@ -23,6 +23,7 @@ mod section;
 mod sites;
 mod state;
 mod statements;
+mod stops;
 mod table;
 mod table_row;
 mod tags;

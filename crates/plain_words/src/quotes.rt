@@ -74,3 +74,22 @@ fn character(text: &[u8]) -> &[u8] {
         .count();
     &text[..count.saturating_add(1).min(text.len())]
 }
+
+/// Appends what stands in the line with which a text begins.
+pub(crate) fn write_line(told: &mut String, text: &[u8]) -> Result<(), AllocError> {
+    let line = first_line(text);
+    if line.is_empty() {
+        return Ok(());
+    }
+    told.push_str(", at ")?;
+    write_quoted(told, line, 0)
+}
+
+/// A text up to the end of its first line.
+pub(crate) fn first_line(text: &[u8]) -> &[u8] {
+    let count = text
+        .iter()
+        .take_while(|byte| **byte != b'\n' && **byte != b'\r')
+        .count();
+    &text[..count]
+}

@@ -1,0 +1,121 @@
+//! Where a tag stops being read, and why.
+ghost use Rattle.std.specs.Prelude.{◌≡◌, ℕ, ◌≤◌, ◌<◌, ◌∷◌, List, length, MatchOption, IfSome};
+ghost use Rattle.pap_reader.specs.Values.{NoByte};
+ghost use Rattle.plain_words.specs.Strays.{ReadsValue, begins_with_sign};
+ghost use Rattle.plain_words.specs.private.StopViews.{StopsAs};
+
+use crate::counting::line_number;
+use crate::quotes::{write_line, write_quoted};
+use pap_reader::{ValueFront, read_byte, read_value_front, split_letters};
+use std::alloc::AllocError;
+
+/// Where a text stops being a tag.
+#[derive(Clone, Copy)]
+pub(crate) struct TagStop<'a> {
+    /// What stands before the value in which it stops. `None` where it stops outside of values.
+    pub value: Option<ValueFront<'a>>,
+    /// What stands there, up to the end of the file.
+    pub left: &'a [u8],
+}
+
+/// Where a text stops being a tag: at the first byte of a value that can't stand in one, or behind the last attribute.
+pub(crate) fn tag_stop(text: &[u8]) -> TagStop<'_>
+    ensures stops { StopsAs text.now result }
+    ensures within { length result.left.now ≤ length text.now }
+{
+    let Some(inner) = after_byte(text, b'<') else {
+        return TagStop {
+            value: None,
+            left: text,
+        };
+    };
+    let mut left = split_letters(inner).1;
+    while let Some(front) = read_value_front(left) {
+        let end = value_end(front.text, front.quote);
+        match after_byte(end, front.quote) {
+            Some(rest) => left = rest,
+            None => {
+                return TagStop {
+                    value: Some(front),
+                    left: end,
+                };
+            }
+        }
+    }
+    TagStop { value: None, left }
+}
+
+/// What is left after this byte, if it comes first.
+fn after_byte(bytes: &[u8], byte: u8) -> Option<&[u8]>
+    ensures found { MatchOption result
+        ((rest : List ℕ) → bytes.now ≡ byte ∷ rest → ⊥)
+        (λ rest. bytes.now ≡ byte ∷ rest.now) }
+    ensures shorter { IfSome result (λ rest. length rest.now < length bytes.now) }
+{
+    match bytes {
+        [] => None,
+        [first, rest @ ..] => { if *first == byte { Some(rest) } else { None } }
+    }
+}
+
+/// What is left of a value behind the bytes that it may have: its closing quote, or what can't stand in a value.
+fn value_end(text: &[u8], quote: u8) -> &[u8]
+    ensures reads { ReadsValue quote text.now result.now }
+    ensures none { NoByte quote result.now }
+    ensures within { length result.now ≤ length text.now }
+{
+    let mut left = text;
+    while let Some((_, rest)) = read_byte(left, quote) {
+        left = rest;
+    }
+    left
+}
+
+/// Whether what is left of a value's text begins with a sign that would have to be escaped: a `&`, or a `<` in the line in which the
+/// text begins.
+pub(crate) fn begins_with_sign(text: &[u8], left: &[u8]) -> bool
+    ensures { result ≡ begins_with_sign text.now left.now }
+{
+    match left {
+        [] => false,
+        [first, ..] => *first == b'&' || *first == b'<' && line_number(text) == line_number(left),
+    }
+}
+
+impl TagStop<'_> {
+    /// Appends why a tag stops there, and what stands there.
+    pub(crate) fn write(self, out: &mut String) -> Result<(), AllocError> {
+        let Some(front) = self.value else {
+            out.push_str("the tag isn't well formed")?;
+            return write_line(out, self.left);
+        };
+        out.push_str("the value of the attribute ")?;
+        write_quoted(out, front.name, 0)?;
+        match self.left.first() {
+            Some(b'<') if !begins_with_sign(front.text, self.left) => out.push_str(
+                " has no closing quotation mark in its line",
+            )?,
+            Some(b'<') => out.push_str(" has a < that isn't escaped")?,
+            Some(_) => out.push_str(" has a & that begins no escape")?,
+            None => out.push_str(" has no closing quotation mark")?,
+        }
+        write_line(out, self.left)
+    }
+
+    /// What helps there.
+    pub(crate) fn help(self) -> &'static str {
+        let Some(front) = self.value else {
+            return "a tag is < or </, the element's name, attributes as NAME=\"VALUE\" with a blank before each, and > or />";
+        };
+        match self.left.first() {
+            Some(b'<') if !begins_with_sign(front.text, self.left) => {
+                "close the value with the quotation mark that opens it; in a value that goes over several lines a < is written &lt;"
+            }
+            Some(b'<') => "write &lt; for a < in a value",
+            Some(_) => {
+                "write &amp; for a & in a value; the escapes are &lt; &gt; &amp; &quot; &apos; and &#N; with N from 1 to 127"
+            }
+            None => "close the value with the quotation mark that opens it",
+        }
+    }
+}
