@@ -46,9 +46,10 @@ fn find_key(limits: TextFile<'_>, label: &Label, told: &mut String) -> Result<Fo
             if let Some(Value::Table(entries)) = table.get(section.name())
                 && let Some(name) = entry_of(entries, section, label)
             {
-                section.write_fault(told, name, entries.get(name))?;
-                let at = entry_byte(*told.allocator(), limits, section, name)?;
-                return Ok(Found::in_ranges(at).with_help(entry_rule(section, name)));
+                let value = entries.get(name);
+                section.write_fault(told, name, value)?;
+                let at = entry_byte(limits.bytes, section, name);
+                return Ok(Found::in_ranges(at).with_help(section.help(name, value)));
             }
         }
     }
@@ -70,15 +71,6 @@ fn is_section(label: &Label) -> bool {
         }
     }
     false
-}
-
-/// What is told of an entry of a section.
-fn entry_rule(section: Section, entry: &str) -> &'static str {
-    if Name::read(entry.as_bytes()).is_some() {
-        section.rule()
-    } else {
-        "an entry has the name of an input: a letter or _, and then letters, digits and _"
-    }
 }
 
 /// The entry of a section with a key of this label that isn't allowed there, or else the entry that has this label. `None` where
@@ -124,7 +116,7 @@ fn find_bounds(limits: TextFile<'_>, label: &Label, told: &mut String) -> Result
 {
     let alloc = *told.allocator();
     let name = label.as_str();
-    let at = entry_byte(alloc, limits, Section::Input, name)?;
+    let at = entry_byte(limits.bytes, Section::Input, name);
     write!(told, "in the entry [input.{name}] ")?;
     let help = match toml::table_from_slice(alloc, limits.bytes) {
         Ok(table) => match input_entry(&table, name) {
@@ -265,7 +257,7 @@ pub(crate) fn find_limit_name(
         told,
         "the entry [input.{name}] is of no INPUT of the flowchart"
     )?;
-    let at = entry_byte(*told.allocator(), limits, Section::Input, name.as_str())?;
+    let at = entry_byte(limits.bytes, Section::Input, name.as_str());
     Ok(Found::in_ranges(at).with_help("correct the name, or take the entry out"))
 }
 
@@ -282,7 +274,7 @@ pub(crate) fn find_limit_kind(
         told,
         "the range of the entry [input.{name}] doesn't suit the type of the INPUT {name}"
     )?;
-    let at = entry_byte(*told.allocator(), limits, Section::Input, name.as_str())?;
+    let at = entry_byte(limits.bytes, Section::Input, name.as_str());
     let rule = match declaration_of(source, name) {
         Some(found) => kind_rule(found.declared.kind),
         None => "see its type",
@@ -311,7 +303,7 @@ pub(crate) fn find_binding(
 ) -> Result<Found, AllocError>
     ensures { IfOk result (λ found. IsOfRanges found) }
 {
-    let at = entry_byte(*told.allocator(), limits, Section::Bind, name.as_str())?;
+    let at = entry_byte(limits.bytes, Section::Bind, name.as_str());
     let help = if declares_input(source, name) {
         write!(
             told,

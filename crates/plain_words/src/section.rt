@@ -1,8 +1,7 @@
 //! The sections of a range file, and the headings of their entries.
-use crate::place::TextFile;
 use limits_file::{unsuited_binding_key, unsuited_input_key};
 use pap_tree::{Name, is_word};
-use std::alloc::{AllocError, Global};
+use std::alloc::AllocError;
 use toml::{Table, Value};
 
 /// A section of a range file.
@@ -27,7 +26,7 @@ impl Section {
     }
 
     /// What its entries have.
-    pub(crate) fn rule(self) -> &'static str {
+    fn rule(self) -> &'static str {
         match self {
             Section::Bind => {
                 "an entry of bind has kind, \"sum\", \"last\" or \"count\", and, but for \"count\", output, the name of an output"
@@ -35,6 +34,30 @@ impl Section {
             Section::Input => {
                 "an entry of input has low and high, whole numbers or decimals in quotation marks, and places, a whole number"
             }
+        }
+    }
+
+    /// How an entry is written, where a value stands in its place.
+    fn form(self) -> &'static str {
+        match self {
+            Section::Bind => {
+                "write an entry: the line [bind.NAME] with the name of the input, and below it the lines kind = \"sum\" and output = \"NAME\""
+            }
+            Section::Input => {
+                "write an entry: the line [input.NAME] with the name of the input, and below it a line each for low, high and places, as low = 0"
+            }
+        }
+    }
+
+    /// What helps against a fault of the value of an entry of a name.
+    pub(crate) fn help(self, name: &str, value: Option<&Value>) -> &'static str {
+        let Some(Value::Table(_)) = value else {
+            return self.form();
+        };
+        if Name::read(name.as_bytes()).is_some() {
+            self.rule()
+        } else {
+            "an entry has the name of an input: a letter or _, and then letters, digits and _"
         }
     }
 
@@ -65,7 +88,7 @@ impl Section {
         let Some(Value::Table(entry)) = value else {
             return write!(
                 told,
-                "[{section}.{name}] isn't an entry with keys of its own"
+                "the key {name} of the table [{section}] isn't an entry with keys of its own"
             );
         };
         if Name::read(name.as_bytes()).is_none() {
@@ -112,16 +135,68 @@ impl Section {
     }
 }
 
-/// The byte of an entry's heading, as `[input.RE4]` or `[input."R 4"]`, where a line begins with it.
-pub(crate) fn entry_byte(
-    alloc: Global,
-    limits: TextFile<'_>,
-    section: Section,
-    entry: &str,
-) -> Result<Option<usize>, AllocError> {
-    let name = section.name();
-    let front = format!(in alloc; "[{name}.")?;
-    Ok(heading_byte(limits.bytes, front.as_bytes(), entry.as_bytes()))
+/// In which table of a range file a line stands.
+#[derive(Clone, Copy)]
+enum Within {
+    /// In none: before all headings.
+    File,
+    /// In the table of a section, as below `[input]`.
+    Section,
+    /// In another table.
+    Other,
+}
+
+/// The byte of an entry: of its heading, as `[input.RE4]` or `[input."R 4"]`, of its line below the heading `[input]`, or of its line
+/// `input.RE4 = ..` before all headings.
+pub(crate) fn entry_byte(limits: &[u8], section: Section, entry: &str) -> Option<usize> {
+    let name = section.name().as_bytes();
+    let mut within = Within::File;
+    let mut at = 0usize;
+    for text in limits.split(|byte| *byte == b'\n') {
+        let line = text.trim_ascii_start();
+        if let Some(key) = entry_key(line, within, name)
+            && first_key(key) == entry.as_bytes()
+        {
+            return Some(at);
+        }
+        within = within_after(line, within, name);
+        at = at.saturating_add(text.len()).saturating_add(1);
+    }
+    None
+}
+
+/// What a line has from the key of an entry of a section on, if it has one.
+fn entry_key<'a>(line: &'a [u8], within: Within, section: &[u8]) -> Option<&'a [u8]> {
+    if let Some(heading) = line.strip_prefix(b"[") {
+        return heading
+            .trim_ascii_start()
+            .strip_prefix(section)?
+            .strip_prefix(b".");
+    }
+    match within {
+        Within::File => line.strip_prefix(section)?.strip_prefix(b"."),
+        Within::Section => Some(line),
+        Within::Other => None,
+    }
+}
+
+/// In which table the next line stands.
+fn within_after(line: &[u8], within: Within, section: &[u8]) -> Within {
+    let Some(heading) = line.strip_prefix(b"[") else {
+        return within;
+    };
+    match heading.trim_ascii_start().strip_prefix(section) {
+        Some(rest) if rest.trim_ascii_start().starts_with(b"]") => Within::Section,
+        _ => Within::Other,
+    }
+}
+
+/// The key with which a text begins: what stands in its quotation marks, or its letters, digits, `_` and `-`.
+fn first_key(text: &[u8]) -> &[u8] {
+    match text {
+        [quote @ (b'"' | b'\''), quoted @ ..] => front_before(quoted, *quote),
+        _ => bare_key(text),
+    }
 }
 
 /// The byte at which the first line does that begins with a key of the range file itself, as `[inputs.RE4]` does with `inputs`,
@@ -144,30 +219,17 @@ pub(crate) fn section_byte(limits: &[u8], key: &[u8]) -> Option<usize> {
     None
 }
 
-/// The byte at which the first line does that begins with a front and then with a heading's key of a name.
-fn heading_byte(limits: &[u8], front: &[u8], name: &[u8]) -> Option<usize> {
-    let mut at = 0usize;
-    for text in limits.split(|byte| *byte == b'\n') {
-        if let Some(rest) = text.strip_prefix(front)
-            && heading_key(rest) == name
-        {
-            return Some(at);
-        }
-        at = at.saturating_add(text.len()).saturating_add(1);
-    }
-    None
-}
-
-/// The key with which the last part of a heading begins: what stands in its quotation marks, or before the bracket.
-fn heading_key(text: &[u8]) -> &[u8] {
-    match text {
-        [quote @ (b'"' | b'\''), quoted @ ..] => front_before(quoted, *quote),
-        _ => front_before(text, b']'),
-    }
-}
-
 /// What stands in a text before the first byte of a value, or all of it.
 fn front_before(text: &[u8], end: u8) -> &[u8] {
     let count = text.iter().take_while(|byte| **byte != end).count();
+    &text[..count]
+}
+
+/// The letters, digits, `_` and `-` with which a text begins.
+fn bare_key(text: &[u8]) -> &[u8] {
+    let count = text
+        .iter()
+        .take_while(|byte| is_word(**byte) || **byte == b'-')
+        .count();
     &text[..count]
 }

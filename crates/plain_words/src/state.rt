@@ -129,7 +129,7 @@ fn find_reason(
         RunReason::Waits(_) | RunReason::Unknown(_) => Ok(Found::in_plan(None)),
         RunReason::Missing(name) => Ok(Found::in_plan(input_byte(alloc, plan, name)?)),
         RunReason::Outside { name, .. } => {
-            let at = entry_byte(alloc, limits, Section::Input, name.as_str())?;
+            let at = entry_byte(limits.bytes, Section::Input, name.as_str());
             Ok(Found::in_ranges(at))
         }
     }
