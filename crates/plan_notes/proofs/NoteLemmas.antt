@@ -1,26 +1,25 @@
 -- What a scan's notes hold, one token after the other.
-use Rattle.std.proofs.Common.{◌≡◌, ℕ, ◌-◌, ◌≤◌, inl, inr, true, cond, List, [], ◌∷◌, ◌++◌, length, take, drop, map, refl, sym, ap, subst, ◌∙◌, arith, ◌≢◌, Option, Some, None, Bor}
+use Rattle.std.proofs.Common.{◌≡◌, ℕ, ◌-◌, ◌≤◌, inl, inr, true, cond, List, [], ◌∷◌, ◌++◌, length, take, drop, map, refl, sym, ap, subst, ◌∙◌, arith}
 use Rattle.std.specs.declared.alloc.Global.{Global}
-use Rattle.std.specs.Prelude.{codes, String, slice_range, option_map, string_bytes, MatchOption}
+use Rattle.std.specs.Prelude.{String, slice_range, option_map, string_bytes}
 use Rattle.std.specs.List.{flat_map}
 use Rattle.std.proofs.lemmas.Bool.{le-leb}
-use Rattle.std.proofs.lemmas.List.{append-nil, append_assoc, append_cancel_left, map-append, length-append, length-drop, take_at, take-append-le, drop-append-le, take_rest, drop_all}
+use Rattle.std.proofs.lemmas.List.{append-nil, append_assoc, map-append, length-append, length-drop, take-append-le, drop-append-le, take_rest, drop_all}
 use Rattle.std.proofs.lemmas.List.Concat.{flat_map-append}
 use Rattle.std.proofs.lemmas.List.Sums.{fold_push}
 use Rattle.pap_tree.specs.White.{is_white}
 use Rattle.pap_reader.specs.Tags.{Attribute, Tag, IsTag}
-use Rattle.pap_reader.specs.Skipped.{Past, here, later, IsPassed, IsAfterProlog}
+use Rattle.pap_reader.specs.Skipped.{IsPassed, IsAfterProlog}
 use Rattle.pap_reader.specs.Marks.{marks_of}
-use Rattle.pap_reader.proofs.Passing.{unpassed, WhiteFirst, CommentFirst}
 use Rattle.plan_notes.specs.declared.notes.Notes.{Notes}
 use Rattle.plan_notes.specs.declared.tag.Mark.{Mark}
 use Rattle.plan_notes.specs.Edges.{edges_by}
 use Rattle.plan_notes.specs.Marks.{edge_of, HaveInTurn}
 use Rattle.plan_notes.specs.Walks.{comments_at}
-use Rattle.plan_notes.specs.Contents.{Token, remark, tagged, IsComment, IsToken, Tells, nothing, white, token, HasTokens, NoteItem, line, place, items_by, items_told, root_by, root_of}
-use Rattle.plan_notes.specs.private.Contents.{comment_with}
+use Rattle.plan_notes.specs.Contents.{Token, remark, tagged, IsToken, Tells, nothing, white, token, HasTokens, NoteItem, line, place, items_by, items_told, root_by, root_of}
 use Rattle.plan_notes.specs.Notes.{comment_items, items_at, noted, SaysOfRoot, HasNotes}
 use Rattle.plan_notes.specs.private.ScanViews.{AreKept, Stops, SameRoot, KeepsPassed, KeepsRootBy, TellsMore, HasTold}
+use Rattle.plan_notes.proofs.CommentLemmas.{passed_comment, passed_white}
 use Rattle.plan_notes.proofs.EdgeLemmas.{ended}
 
 -- ---- the comments of marks
@@ -137,94 +136,27 @@ says_same old new attributes same says = record {
 
 -- ---- a comment
 
--- what is left of a text behind its front, without its end
-pub inside_from : (passed inner : List ℕ) (o : Option (Bor (List ℕ))) → passed ≡ codes "<!--" ++ inner
-    → MatchOption o ((front : List ℕ) → inner ≢ front ++ codes "-->") (λ x. inner ≡ x.now ++ codes "-->")
-    → MatchOption o ((inside : List ℕ) → passed ≡ comment_with inside → ⊥) (λ x. passed ≡ comment_with x.now)
-inside_from passed inner None e none =
-    λ inside f. none inside (append_cancel_left (codes "<!--") inner (inside ++ codes "-->") (sym e ∙ f))
-inside_from passed inner (Some x) e is = e ∙ ap (λ z. codes "<!--" ++ z) is
-
-past_parts : {mark bytes rest : List ℕ} → Past mark bytes rest
-    → (inside : List ℕ) × (bytes ≡ inside ++ (mark ++ rest))
-past_parts here = ([], refl)
-past_parts (later {b} h p) = let parts = past_parts p in (b ∷ parts.0, ap (λ z. b ∷ z) parts.1)
-
--- what stands before a rest
-before_rest : (front rest bytes : List ℕ) → bytes ≡ front ++ rest → take (length bytes - length rest) bytes ≡ front
-before_rest front rest bytes e =
-    let size : length (front ++ rest) - length rest ≡ length front = omega (arith, length-append front rest) in
-    ap (λ z. take (length z - length rest) z) e
-    ∙ ap (λ n. take n (front ++ rest)) size
-    ∙ take_at front rest (length front) refl
-
-no_comment : (b : ℕ) (inside : List ℕ) → b ∷ [] ≡ comment_with inside → ⊥
-no_comment b inside e =
-    let is : b ∷ [] ≡ 60 ∷ (33 ∷ (45 ∷ (45 ∷ (inside ++ codes "-->")))) = e in absurd cc
-
-tells_white : (old new : Notes) (first next at : ℕ) (bytes rest : List ℕ) (w : WhiteFirst bytes rest)
-    → KeepsPassed old new (take (length bytes - length rest) bytes) → new.marks.items ≡ old.marks.items → next ≡ first
-    → SameRoot old new
-    → TellsMore old first new next at bytes rest
-tells_white old new first next at bytes rest w (inl kept) m e root =
-    absurd (no_comment w.b kept.0 (sym (before_rest (w.b ∷ []) rest bytes w.is) ∙ kept.1))
-tells_white old new first next at bytes rest w (inr kept) m e root = inl (record {
-  byte = w.b;
-  white = w.white;
-  is = w.is;
-  told = noted_same old new first next m kept.1 e;
-  root = root;
-})
-
-comment_is : (inside rest : List ℕ) → comment_with inside ++ rest ≡ codes "<!--" ++ (inside ++ (codes "-->" ++ rest))
-comment_is inside rest = ap (λ z. codes "<!--" ++ z) (append_assoc inside (codes "-->") rest)
-
-comment_at : (bytes inside rest : List ℕ) (k : CommentFirst bytes rest) → bytes ≡ comment_with inside ++ rest
-    → IsComment bytes inside rest
-comment_at bytes inside rest k e =
-    let is : bytes ≡ codes "<!--" ++ (inside ++ (codes "-->" ++ rest)) = e ∙ comment_is inside rest in
-    record {
-      is = is;
-      first = subst (λ z. Past (codes "-->") z rest)
-          (append_cancel_left (codes "<!--") k.inside (inside ++ (codes "-->" ++ rest)) (sym k.is ∙ is)) k.past;
-    }
-
--- the comment that stands first ends before the rest
-comment_whole : (bytes rest : List ℕ) (k : CommentFirst bytes rest)
-    → (inside : List ℕ) × (bytes ≡ comment_with inside ++ rest)
-comment_whole bytes rest k =
-    let parts = past_parts k.past in
-    (parts.0, k.is ∙ ap (λ z. codes "<!--" ++ z) parts.1 ∙ sym (comment_is parts.0 rest))
-
-tells_comment : (old new : Notes) (first next at : ℕ) (bytes rest : List ℕ) (k : CommentFirst bytes rest)
-    → HaveInTurn 0 old.marks.items first → first ≤ length old.comments.items
-    → KeepsPassed old new (take (length bytes - length rest) bytes) → new.marks.items ≡ old.marks.items → next ≡ first
-    → SameRoot old new
-    → TellsMore old first new next at bytes rest
-tells_comment old new first next at bytes rest k turn within (inl kept) m e root =
-    let whole = comment_whole bytes rest k in
-    let same : comment_with whole.0 ≡ comment_with kept.0 =
-    sym (before_rest (comment_with whole.0) rest bytes whole.1) ∙ kept.1 in
-    inr (record {
-      token = remark kept.0;
-      is = comment_at bytes kept.0 rest k (whole.1 ∙ ap (λ z. z ++ rest) same);
-      told = noted_comment old new first next kept.2.more turn within m kept.2.grown e
-          ∙ ap (λ z. noted old first ++ z) kept.2.lines;
-      root = λ before says. says_same old new before root says;
-    })
-tells_comment old new first next at bytes rest k turn within (inr kept) m e root =
-    let whole = comment_whole bytes rest k in
-    absurd (kept.0 whole.0 (before_rest (comment_with whole.0) rest bytes whole.1))
-
 pub tells_passed : (old new : Notes) (first next at : ℕ) (bytes rest : List ℕ) → IsPassed bytes rest
     → HaveInTurn 0 old.marks.items first → first ≤ length old.comments.items
     → KeepsPassed old new (take (length bytes - length rest) bytes) → new.marks.items ≡ old.marks.items → next ≡ first
     → SameRoot old new
     → TellsMore old first new next at bytes rest
-tells_passed old new first next at bytes rest p turn within kept m e root = elim (unpassed p) [
-  | inl w ↦ tells_white old new first next at bytes rest w kept m e root
-  | inr k ↦ tells_comment old new first next at bytes rest k turn within kept m e root
-]
+tells_passed old new first next at bytes rest p turn within (inl kept) m e root = inr (record {
+  token = remark kept.0;
+  is = passed_comment bytes kept.0 rest p kept.1;
+  told = noted_comment old new first next kept.2.more turn within m kept.2.grown e
+      ∙ ap (λ z. noted old first ++ z) kept.2.lines;
+  root = λ before says. says_same old new before root says;
+})
+tells_passed old new first next at bytes rest p turn within (inr kept) m e root =
+    let first_byte = passed_white bytes rest p kept.0 in
+    inl (record {
+      byte = first_byte.0;
+      white = first_byte.1;
+      is = first_byte.2;
+      told = noted_same old new first next m kept.1 e;
+      root = root;
+    })
 
 -- ---- a tag
 

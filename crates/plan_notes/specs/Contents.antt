@@ -15,6 +15,10 @@ pub data Token : Type 0 where
   remark : List ℕ → Token
   tagged : PlacedTag → Token
 
+-- a comment with these bytes inside
+abbrev pub comment_with : List ℕ → List ℕ
+comment_with inside = codes "<!--" ++ (inside ++ codes "-->")
+
 -- a comment comes first: it ends at the first `-->`
 pub record IsComment (bytes inside rest : List ℕ) : Type 0 where
   pub is : bytes ≡ codes "<!--" ++ (inside ++ (codes "-->" ++ rest))

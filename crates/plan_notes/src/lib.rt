@@ -13,6 +13,6 @@ mod text;
 pub use attributes::attribute_byte;
 pub use notes::{Notes, Walk};
 pub use pap_reader::Element;
-pub use scan::read_notes;
+pub use scan::{inside_comment, read_notes};
 pub use tag::{Mark, Starts, element_name, tag_laws};
 pub use text::one_line;

@@ -7,8 +7,7 @@ ghost use Rattle.pap_reader.specs.Attributes.{attribute_value};
 ghost use Rattle.plan_notes.specs.Lines.{line_text};
 ghost use Rattle.plan_notes.specs.Edges.{HasEdges, edge, edges_by};
 ghost use Rattle.plan_notes.specs.Marks.{edge_of, HaveComments};
-ghost use Rattle.plan_notes.specs.Contents.{place};
-ghost use Rattle.plan_notes.specs.private.Contents.{comment_with};
+ghost use Rattle.plan_notes.specs.Contents.{comment_with, place};
 ghost use Rattle.plan_notes.specs.Notes.{noted, SaysOfRoot, HasNotes};
 ghost use Rattle.plan_notes.specs.private.ScanViews.{AreKept, Finds, Takes, Stops, SameRoot, AddsComment, KeepsPassed, KeepsRoot, KeepsRootBy, TellsMore};
 
@@ -191,8 +190,8 @@ impl Scan {
     }
 }
 
-/// The text inside a comment. `None` where white space stands.
-fn inside_comment(passed: &[u8]) -> Option<&[u8]>
+/// The text inside a comment, of what [`after_passed`] passes over. `None` where white space stands.
+pub fn inside_comment(passed: &[u8]) -> Option<&[u8]>
     ensures { MatchOption result
         ((inside : List ℕ) → passed.now ≡ comment_with inside → ⊥)
         (λ inside. passed.now ≡ comment_with inside.now) }

@@ -12,8 +12,7 @@ use Rattle.pap_reader.specs.Marks.{Mark, begins, marks_of}
 use Rattle.plan_notes.specs.declared.notes.Notes.{Notes}
 use Rattle.plan_notes.specs.Edges.{Edge, edges_by, edges_of}
 use Rattle.plan_notes.specs.Marks.{edge_of, HaveInTurn}
-use Rattle.plan_notes.specs.Contents.{Token, remark, IsToken, HasTokens, items_by, items_told, root_at, root_by, root_of}
-use Rattle.plan_notes.specs.private.Contents.{comment_with}
+use Rattle.plan_notes.specs.Contents.{Token, remark, comment_with, IsToken, HasTokens, items_by, items_told, root_at, root_by, root_of}
 use Rattle.plan_notes.specs.Notes.{comment_items, noted, SaysOfRoot}
 
 -- the tags begin before a place, in order, and have the comments before a number

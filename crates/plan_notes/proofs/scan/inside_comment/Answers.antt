@@ -1,7 +1,7 @@
 use Rattle.std.proofs.Common.{Some, codes}
 use Rattle.std.proofs.lemmas.Bool.Decides.{Decides-eqb}
 use Rattle.std.proofs.lemmas.Slice.Eq.{strip_prefix_is, strip_suffix_is}
-use Rattle.plan_notes.proofs.NoteLemmas.{inside_from}
+use Rattle.plan_notes.proofs.CommentLemmas.{inside_from}
 use Rattle.plan_notes.proofs.scan.inside_comment.Goals as goal
 
 pub returns : goal.returns
