@@ -15,7 +15,8 @@ pub(crate) fn read_covered<'a>(
     limits: &'a str,
     rest: &'a [String],
 ) -> Result<Option<Request<'a>>, AllocError>
-    ensures { let words = behind_cover (medium_of medium) (plan.now ∷ limits.now ∷ texts rest.now) in
+    ensures { let words = behind_cover (medium_of medium)
+        (plan.now ∷ limits.now ∷ texts rest.now) in
         IfOk result (λ found. MatchOption found (IsBad words)
         (λ request. HasForm words (form_of request))) }
 {

@@ -223,7 +223,8 @@ fn statement_item(
     runs: u64,
     exits: Option<ExitRuns>,
 ) -> Result<Item, AllocError>
-    ensures { IfOk result (λ item. item ≡ statement_item (site_of site.now) statement.now runs exits) }
+    ensures { IfOk result (λ item.
+        item ≡ statement_item (site_of site.now) statement.now runs exits) }
 {
     Ok(Item {
         statement: site.statement,
