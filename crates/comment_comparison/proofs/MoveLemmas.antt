@@ -5,7 +5,7 @@ use Rattle.comment_comparison.specs.declared.change.CommentChange.TheVariants.{G
 use Rattle.comment_comparison.specs.declared.tally.Tally.{Tally}
 use Rattle.flowchart_comparison.specs.Entries.{compared_text}
 use Rattle.comment_comparison.specs.CommentChanges.{times, gone_text, new_text, gone_texts, new_texts, none, told, untold}
-use Rattle.comment_comparison.specs.private.Tallies.{count_in, IsTally, other_count, AreUnmoved}
+use Rattle.comment_comparison.specs.private.Tallies.{count_in, CountsLess, IsTally, other_count, AreUnmoved}
 use Rattle.comment_comparison.proofs.TallyLemmas.{times_one, gone_push, new_push}
 
 -- ---- numbers of one side
@@ -49,8 +49,8 @@ module _ (x text : List ℕ) (t p u s : List ℕ → ℕ) (left : (q : List ℕ)
 
 module _ (old new : List (List ℕ)) (tally tally' : Tally) (ts : List CommentChange) where
   module _ (c : CommentChange)
-      (gone_now : (text : List ℕ) → count_in tally'.gone_counts text ≡ count_in tally.gone_counts text - times text (new_text new c))
-      (new_now : (text : List ℕ) → count_in tally'.new_counts text ≡ count_in tally.new_counts text - times text (gone_text old c))
+      (gone_now : CountsLess tally.gone_counts tally'.gone_counts (new_text new c))
+      (new_now : CountsLess tally.new_counts tally'.new_counts (gone_text old c))
       (all passed : List CommentChange) (h : AreUnmoved old new all passed ts tally) where
     gone_rest : (text : List ℕ) → count_in tally'.gone_counts text
         ≡ times text (gone_texts old all) - times text (new_texts new (passed ++ (c ∷ [])))
@@ -67,8 +67,8 @@ module _ (old new : List (List ℕ)) (tally tally' : Tally) (ts : List CommentCh
         (new_now text) (h.new_left text) (gone_push old text passed c)
 
   pub is_moved : (c : CommentChange) → 0 < other_count old new tally c
-      → ((text : List ℕ) → count_in tally'.gone_counts text ≡ count_in tally.gone_counts text - times text (new_text new c))
-      → ((text : List ℕ) → count_in tally'.new_counts text ≡ count_in tally.new_counts text - times text (gone_text old c))
+      → CountsLess tally.gone_counts tally'.gone_counts (new_text new c)
+      → CountsLess tally.new_counts tally'.new_counts (gone_text old c)
       → (all passed : List CommentChange) → AreUnmoved old new all passed ts tally
       → AreUnmoved old new all (passed ++ (c ∷ [])) ts tally'
   is_moved (Gone i) some gone_now new_now all passed h = record {
@@ -93,8 +93,8 @@ module _ (old new : List (List ℕ)) (tally tally' : Tally) (ts : List CommentCh
   }
 
   is_told : (c : CommentChange) → other_count old new tally c ≡ 0
-      → ((text : List ℕ) → count_in tally'.gone_counts text ≡ count_in tally.gone_counts text - times text (new_text new c))
-      → ((text : List ℕ) → count_in tally'.new_counts text ≡ count_in tally.new_counts text - times text (gone_text old c))
+      → CountsLess tally.gone_counts tally'.gone_counts (new_text new c)
+      → CountsLess tally.new_counts tally'.new_counts (gone_text old c)
       → (all passed : List CommentChange) → AreUnmoved old new all passed ts tally
       → AreUnmoved old new all (passed ++ (c ∷ [])) (ts ++ (c ∷ [])) tally'
   is_told (Gone i) absent gone_now new_now all passed h = record {
@@ -123,8 +123,8 @@ module _ (old new : List (List ℕ)) (tally tally' : Tally) (ts : List CommentCh
   }
 
   pub is_told_as : (c : CommentChange) (ts' : List CommentChange) → ts' ≡ ts ++ (c ∷ []) → other_count old new tally c ≡ 0
-      → ((text : List ℕ) → count_in tally'.gone_counts text ≡ count_in tally.gone_counts text - times text (new_text new c))
-      → ((text : List ℕ) → count_in tally'.new_counts text ≡ count_in tally.new_counts text - times text (gone_text old c))
+      → CountsLess tally.gone_counts tally'.gone_counts (new_text new c)
+      → CountsLess tally.new_counts tally'.new_counts (gone_text old c)
       → (all passed : List CommentChange) → AreUnmoved old new all passed ts tally
       → AreUnmoved old new all (passed ++ (c ∷ [])) ts' tally'
   is_told_as c ts' is absent gone_now new_now all passed h =

@@ -1,83 +1,30 @@
 -- What a scan has read of a file's comments, one token after the other.
-use Rattle.std.proofs.Common.{◌≡◌, ◌≢◌, ◌⊎◌, inl, inr, ℕ, zero, suc, ◌+◌, ◌-◌, ◌≤◌, List, [], ◌∷◌, ◌++◌, length, take, drop, cond, refl, sym, ap, subst, ◌∙◌, arith, Option, Some, None, Bor}
-use Rattle.std.specs.Prelude.{codes, MatchOption, option_map}
+use Rattle.std.proofs.Common.{◌≡◌, ◌⊎◌, inl, inr, ℕ, zero, suc, ◌+◌, ◌-◌, ◌≤◌, List, [], ◌∷◌, ◌++◌, length, take, drop, cond, refl, sym, ap, subst, ◌∙◌, arith, Option, Some, None, Bor}
+use Rattle.std.specs.Prelude.{MatchOption, option_map}
 use Rattle.std.specs.List.{sum_by, count_by}
-use Rattle.std.proofs.lemmas.List.{append-nil, append_assoc, append_cancel_left, length-append, take_at}
+use Rattle.std.proofs.lemmas.List.{append-nil}
 use Rattle.std.proofs.lemmas.List.Sums.{sum_by-append, count_by-le-length}
 use Rattle.pap_reader.specs.Tags.{NoTag}
-use Rattle.pap_reader.specs.Skipped.{Past, here, later, IsPassed, NotPassed, IsAfterProlog}
+use Rattle.pap_reader.specs.Skipped.{IsPassed, NotPassed, IsAfterProlog}
 use Rattle.pap_reader.specs.Tokens.{IsAlien}
-use Rattle.pap_reader.proofs.Passing.{unpassed, CommentFirst}
 use Rattle.plain_words.specs.Positions.{is_line_feed, line_of}
 use Rattle.plan_notes.specs.Lines.{line_text}
-use Rattle.plan_notes.specs.Contents.{IsComment}
+use Rattle.plan_notes.specs.Contents.{comment_with}
+use Rattle.plan_notes.proofs.Laws.{passed_comment, passed_white}
 use Rattle.comment_comparison.specs.Comments.{LineComment, line_comment, HasPassed, prolog, white, comment, tag, HasComments}
-use Rattle.comment_comparison.specs.private.CommentScans.{inside_marks, IsTokenRead, NoTokenRead, comments_kept}
+use Rattle.comment_comparison.specs.private.CommentScans.{IsTokenRead, NoTokenRead, comments_kept}
 
 -- ---- a comment
 
--- what is left of a text behind its front, without its end
-pub inside_from : (passed inner : List ℕ) (o : Option (Bor (List ℕ))) → passed ≡ codes "<!--" ++ inner
-    → MatchOption o ((front : List ℕ) → inner ≢ front ++ codes "-->") (λ x. inner ≡ x.now ++ codes "-->")
-    → MatchOption o ((inside : List ℕ) → passed ≡ inside_marks inside → ⊥) (λ x. passed ≡ inside_marks x.now)
-inside_from passed inner None e none =
-    λ inside f. none inside (append_cancel_left (codes "<!--") inner (inside ++ codes "-->") (sym e ∙ f))
-inside_from passed inner (Some x) e is = e ∙ ap (λ z. codes "<!--" ++ z) is
-
-past_parts : {mark bytes rest : List ℕ} → Past mark bytes rest
-    → (inside : List ℕ) × (bytes ≡ inside ++ (mark ++ rest))
-past_parts here = ([], refl)
-past_parts (later {b} h p) = let parts = past_parts p in (b ∷ parts.0, ap (λ z. b ∷ z) parts.1)
-
--- what stands before a rest
-before_rest : (front rest bytes : List ℕ) → bytes ≡ front ++ rest → take (length bytes - length rest) bytes ≡ front
-before_rest front rest bytes e =
-    let size : length (front ++ rest) - length rest ≡ length front = omega (arith, length-append front rest) in
-    ap (λ z. take (length z - length rest) z) e
-    ∙ ap (λ n. take n (front ++ rest)) size
-    ∙ take_at front rest (length front) refl
-
-no_comment : (b : ℕ) (inside : List ℕ) → b ∷ [] ≡ inside_marks inside → ⊥
-no_comment b inside e =
-    let is : b ∷ [] ≡ 60 ∷ (33 ∷ (45 ∷ (45 ∷ (inside ++ codes "-->")))) = e in absurd cc
-
-comment_is : (inside rest : List ℕ) → inside_marks inside ++ rest ≡ codes "<!--" ++ (inside ++ (codes "-->" ++ rest))
-comment_is inside rest = ap (λ z. codes "<!--" ++ z) (append_assoc inside (codes "-->") rest)
-
-comment_at : (bytes inside rest : List ℕ) (k : CommentFirst bytes rest) → bytes ≡ inside_marks inside ++ rest
-    → IsComment bytes inside rest
-comment_at bytes inside rest k e =
-    let is : bytes ≡ codes "<!--" ++ (inside ++ (codes "-->" ++ rest)) = e ∙ comment_is inside rest in
-    record {
-      is = is;
-      first = subst (λ z. Past (codes "-->") z rest)
-          (append_cancel_left (codes "<!--") k.inside (inside ++ (codes "-->" ++ rest)) (sym k.is ∙ is)) k.past;
-    }
-
--- the comment that stands first ends before the rest
-comment_whole : (bytes rest : List ℕ) (k : CommentFirst bytes rest)
-    → (inside : List ℕ) × (bytes ≡ inside_marks inside ++ rest)
-comment_whole bytes rest k =
-    let parts = past_parts k.past in
-    (parts.0, k.is ∙ ap (λ z. codes "<!--" ++ z) parts.1 ∙ sym (comment_is parts.0 rest))
-
 -- what is passed over is a comment where it has its marks, and else white space
 pub read_passed : (bytes rest : List ℕ) (o : Option (Bor (List ℕ))) → IsPassed bytes rest
-    → MatchOption o ((inside : List ℕ) → take (length bytes - length rest) bytes ≡ inside_marks inside → ⊥)
-    (λ x. take (length bytes - length rest) bytes ≡ inside_marks x.now)
+    → MatchOption o ((inside : List ℕ) → take (length bytes - length rest) bytes ≡ comment_with inside → ⊥)
+    (λ x. take (length bytes - length rest) bytes ≡ comment_with x.now)
     → IsTokenRead bytes (option_map (λ (x : Bor (List ℕ)). x.now) o) rest
-read_passed bytes rest None p not_marked = elim (unpassed p) [
-  | inl w ↦ inl (record { b = w.b; white = w.white; is = w.is })
-  | inr k ↦ let whole = comment_whole bytes rest k in
-      absurd (not_marked whole.0 (before_rest (inside_marks whole.0) rest bytes whole.1))
-]
-read_passed bytes rest (Some x) p is = elim (unpassed p) [
-  | inl w ↦ absurd (no_comment w.b x.now (sym (before_rest (w.b ∷ []) rest bytes w.is) ∙ is))
-  | inr k ↦ let whole = comment_whole bytes rest k in
-      let same : inside_marks whole.0 ≡ inside_marks x.now =
-      sym (before_rest (inside_marks whole.0) rest bytes whole.1) ∙ is in
-      comment_at bytes x.now rest k (whole.1 ∙ ap (λ z. z ++ rest) same)
-]
+read_passed bytes rest None p unmarked =
+    let first = passed_white bytes rest p unmarked in
+    inl (record { b = first.0; white = first.1; is = first.2 })
+read_passed bytes rest (Some x) p is = passed_comment bytes x.now rest p is
 
 -- ---- the comments so far
 

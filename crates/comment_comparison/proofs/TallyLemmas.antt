@@ -17,7 +17,7 @@ use Rattle.comment_comparison.specs.declared.change.CommentChange.TheVariants.{G
 use Rattle.comment_comparison.specs.declared.tally.Tally.{Tally}
 use Rattle.comment_comparison.specs.Comments.{LineComment, comment_texts}
 use Rattle.comment_comparison.specs.CommentChanges.{times, gone_text, new_text, gone_texts, new_texts}
-use Rattle.comment_comparison.specs.private.Tallies.{count_in, IsTally}
+use Rattle.comment_comparison.specs.private.Tallies.{count_in, CountsMore, CountsLess, IsTally}
 
 -- ---- texts
 
@@ -92,8 +92,8 @@ module _ (old new : List (List ℕ)) (cs : List CommentChange) (tally : Tally) (
 
 pub tally_more : (old new : List (List ℕ)) (cs cs' : List CommentChange) (c : CommentChange) (tally tally' : Tally)
     → IsTally old new cs tally → cs' ≡ cs ++ (c ∷ [])
-    → ((text : List ℕ) → count_in tally'.gone_counts text ≡ count_in tally.gone_counts text + times text (gone_text old c))
-    → ((text : List ℕ) → count_in tally'.new_counts text ≡ count_in tally.new_counts text + times text (new_text new c))
+    → CountsMore tally.gone_counts tally'.gone_counts (gone_text old c)
+    → CountsMore tally.new_counts tally'.new_counts (new_text new c)
     → IsTally old new cs' tally'
 tally_more old new cs cs' c tally tally' h is gone news = subst (λ l. IsTally old new l tally') (sym is) (record {
   gone = λ text. gone text ∙ ap (λ n. n + times text (gone_text old c)) (h.gone text) ∙ sym (gone_push old text cs c);
@@ -120,43 +120,26 @@ module _ (counts counts' : BTreeMap (Bor (List ℕ)) ℕ) (text : List ℕ) (n :
   count_elsewhere other is =
       ap (λ o. unwrap_or o 0) (updated other ∙ ap (λ b. cond b (Some n) (value_in counts other)) is)
 
-  count_by_test : (other : List ℕ) (b : Bool) → bytes_eq text other ≡ b → n ≡ count_in counts text + 1
-      → count_in counts' other ≡ count_in counts other + times other (text ∷ [])
-  count_by_test other true e is =
+  -- the number of the text is changed by one of it, and those of others aren't
+  changed : (by : ℕ → ℕ → ℕ) → ((k : ℕ) → by k 0 ≡ k) → n ≡ by (count_in counts text) 1 → (other : List ℕ) (b : Bool)
+      → bytes_eq text other ≡ b → count_in counts' other ≡ by (count_in counts other) (times other (text ∷ []))
+  changed by none is other true e =
       let same : text ≡ other = (bytes_eq-Decides text other).0 e in
       let one : times other (text ∷ []) ≡ 1 = ap (λ b. 0 + cond b 1 0) e in
-      let at = ap (count_in counts) same in
-      let now = count_here other e in
-      omega (arith, one, at, now, is)
-  count_by_test other false e is =
-      let none : times other (text ∷ []) ≡ 0 = ap (λ b. 0 + cond b 1 0) e in
-      let now = count_elsewhere other e in
-      omega (arith, none, now)
+      count_here other e ∙ is ∙ ap (λ t. by (count_in counts t) 1) same ∙ ap (by (count_in counts other)) (sym one)
+  changed by none is other false e =
+      let none_more : times other (text ∷ []) ≡ 0 = ap (λ b. 0 + cond b 1 0) e in
+      count_elsewhere other e ∙ sym (none (count_in counts other)) ∙ ap (by (count_in counts other)) (sym none_more)
 
-  pub count_more : n ≡ count_in counts text + 1 → (other : List ℕ)
-      → count_in counts' other ≡ count_in counts other + times other (text ∷ [])
-  count_more is other = count_by_test other (bytes_eq text other) refl is
+  pub count_more : n ≡ count_in counts text + 1 → CountsMore counts counts' (text ∷ [])
+  count_more is other = changed (λ k m. k + m) (λ k. omega arith) is other (bytes_eq text other) refl
 
-  less_by_test : (other : List ℕ) (b : Bool) → bytes_eq text other ≡ b → n ≡ count_in counts text - 1
-      → count_in counts' other ≡ count_in counts other - times other (text ∷ [])
-  less_by_test other true e is =
-      let same : text ≡ other = (bytes_eq-Decides text other).0 e in
-      let one : times other (text ∷ []) ≡ 1 = ap (λ b. 0 + cond b 1 0) e in
-      let at = ap (count_in counts) same in
-      let now = count_here other e in
-      omega (arith, one, at, now, is)
-  less_by_test other false e is =
-      let none : times other (text ∷ []) ≡ 0 = ap (λ b. 0 + cond b 1 0) e in
-      let now = count_elsewhere other e in
-      omega (arith, none, now)
-
-  pub count_less : n ≡ count_in counts text - 1 → (other : List ℕ)
-      → count_in counts' other ≡ count_in counts other - times other (text ∷ [])
-  count_less is other = less_by_test other (bytes_eq text other) refl is
+  pub count_less : n ≡ count_in counts text - 1 → CountsLess counts counts' (text ∷ [])
+  count_less is other = changed (λ k m. k - m) (λ k. omega arith) is other (bytes_eq text other) refl
 
 -- where a text doesn't stand, nothing is taken away
-pub count_same : (counts : BTreeMap (Bor (List ℕ)) ℕ) (text : List ℕ) → count_in counts text ≡ 0 → (other : List ℕ)
-    → count_in counts other ≡ count_in counts other - times other (text ∷ [])
+pub count_same : (counts : BTreeMap (Bor (List ℕ)) ℕ) (text : List ℕ) → count_in counts text ≡ 0
+    → CountsLess counts counts (text ∷ [])
 count_same counts text absent other = by (times_one other text)
   where
     by : (times other (text ∷ []) ≡ 0) ⊎ ((text ≡ other) × (times other (text ∷ []) ≡ 1))

@@ -1,13 +1,14 @@
 //! The comments of a plan's file, found in one pass.
-ghost use Rattle.std.specs.Prelude.{◌≡◌, ℕ, ◌<◌, ◌≤◌, ◌++◌, List, length, IfOk, IfSome, OnOk, MatchOption, slice_range, count_by};
+ghost use Rattle.std.specs.Prelude.{◌≡◌, ◌<◌, ◌≤◌, ◌++◌, length, count_by};
+ghost use Rattle.std.specs.Prelude.{IfOk, IfSome, OnOk, MatchOption};
 ghost use Rattle.std.specs.Option.{option_map};
 ghost use Rattle.plain_words.specs.Positions.{is_line_feed, line_of};
 ghost use Rattle.comment_comparison.specs.Comments.{HasComments};
-ghost use Rattle.comment_comparison.specs.private.CommentScans.{IsTokenRead, NoTokenRead, inside_marks, comments_kept};
+ghost use Rattle.comment_comparison.specs.private.CommentScans.{IsTokenRead, NoTokenRead, comments_kept};
 
 use crate::comment::Comment;
 use pap_reader::{after_passed, after_prolog, read_tag};
-use plan_notes::one_line;
+use plan_notes::{inside_comment, one_line};
 use std::alloc::{AllocError, Global};
 
 /// What stands first in a text: a byte of white space, a comment or a tag.
@@ -51,15 +52,6 @@ fn read_token(alloc: Global, bytes: &[u8]) -> Result<Option<Token<'_>>, AllocErr
         return Ok(None);
     };
     Ok(Some(Token { inside: None, rest }))
-}
-
-/// The text inside a comment. `None` where white space stands.
-fn inside_comment(passed: &[u8]) -> Option<&[u8]>
-    ensures { MatchOption result
-        ((inside : List ℕ) → passed.now ≡ inside_marks inside → ⊥)
-        (λ inside. passed.now ≡ inside_marks inside.now) }
-{
-    passed.strip_prefix(b"<!--")?.strip_suffix(b"-->")
 }
 
 /// Appends the comment that begins on a line, where there is one.

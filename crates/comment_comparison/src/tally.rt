@@ -1,8 +1,8 @@
 //! How often texts stand among others.
-ghost use Rattle.std.specs.Prelude.{◌≡◌, ℕ, ◌+◌, ◌-◌, ◌<◌, ◌^◌, List, [], ◌∷◌, true, false, IfOk, OnOk};
+ghost use Rattle.std.specs.Prelude.{◌≡◌, ℕ, ◌+◌, ◌<◌, ◌^◌, List, [], ◌∷◌, true, false, IfOk, OnOk};
 ghost use Rattle.comment_comparison.specs.Comments.{comment_texts};
-ghost use Rattle.comment_comparison.specs.CommentChanges.{times, gone_text, new_text};
-ghost use Rattle.comment_comparison.specs.private.Tallies.{count_in, other_count, IsTally};
+ghost use Rattle.comment_comparison.specs.CommentChanges.{gone_text, new_text};
+ghost use Rattle.comment_comparison.specs.private.Tallies.{count_in, CountsMore, CountsLess, other_count, IsTally};
 ghost use Rattle.flowchart_comparison.specs.Entries.{compared_text};
 
 use crate::change::CommentChange;
@@ -49,10 +49,10 @@ fn count_change<'a>(
 ) -> Result<(), AllocError>
     requires gone_few { (text : List ℕ) → count_in tally.old.gone_counts text + 1 < 2 ^ 64 }
     requires new_few { (text : List ℕ) → count_in tally.old.new_counts text + 1 < 2 ^ 64 }
-    ensures gone { OnOk result ((text : List ℕ) → count_in tally.new.gone_counts text
-        ≡ count_in tally.old.gone_counts text + times text (gone_text (comment_texts old.now) change)) }
-    ensures new_ones { OnOk result ((text : List ℕ) → count_in tally.new.new_counts text
-        ≡ count_in tally.old.new_counts text + times text (new_text (comment_texts new.now) change)) }
+    ensures gone { OnOk result (CountsMore tally.old.gone_counts tally.new.gone_counts
+        (gone_text (comment_texts old.now) change)) }
+    ensures new_ones { OnOk result (CountsMore tally.old.new_counts tally.new.new_counts
+        (new_text (comment_texts new.now) change)) }
 {
     match change {
         CommentChange::Gone(place) => add_one(&mut tally.gone_counts, text_at(old, place)),
@@ -71,10 +71,10 @@ pub(crate) fn take_moved<'a>(
         → 0 < other_count (comment_texts old.now) (comment_texts new.now) tally.old change) }
     ensures absent { IfOk result (λ taken. taken ≡ false
         → other_count (comment_texts old.now) (comment_texts new.now) tally.old change ≡ 0) }
-    ensures gone_left { OnOk result ((text : List ℕ) → count_in tally.new.gone_counts text
-        ≡ count_in tally.old.gone_counts text - times text (new_text (comment_texts new.now) change)) }
-    ensures new_left { OnOk result ((text : List ℕ) → count_in tally.new.new_counts text
-        ≡ count_in tally.old.new_counts text - times text (gone_text (comment_texts old.now) change)) }
+    ensures gone_left { OnOk result (CountsLess tally.old.gone_counts tally.new.gone_counts
+        (new_text (comment_texts new.now) change)) }
+    ensures new_left { OnOk result (CountsLess tally.old.new_counts tally.new.new_counts
+        (gone_text (comment_texts old.now) change)) }
 {
     match change {
         CommentChange::Gone(place) => take_one(&mut tally.new_counts, text_at(old, place)),
@@ -103,8 +103,7 @@ fn count_of<'a>(counts: &Counts<'a>, text: &'a [u8]) -> usize
 /// Counts a text once more.
 fn add_one<'a>(counts: &mut Counts<'a>, text: &'a [u8]) -> Result<(), AllocError>
     requires { count_in counts.old text.now + 1 < 2 ^ 64 }
-    ensures { OnOk result ((other : List ℕ) → count_in counts.new other
-        ≡ count_in counts.old other + times other (text.now ∷ [])) }
+    ensures { OnOk result (CountsMore counts.old counts.new (text.now ∷ [])) }
 {
     let count = count_of(counts, text);
     counts.insert(text, count + 1)?;
@@ -115,8 +114,7 @@ fn add_one<'a>(counts: &mut Counts<'a>, text: &'a [u8]) -> Result<(), AllocError
 fn take_one<'a>(counts: &mut Counts<'a>, text: &'a [u8]) -> Result<bool, AllocError>
     ensures stood { IfOk result (λ taken. taken ≡ true → 0 < count_in counts.old text.now) }
     ensures absent { IfOk result (λ taken. taken ≡ false → count_in counts.old text.now ≡ 0) }
-    ensures left { OnOk result ((other : List ℕ) → count_in counts.new other
-        ≡ count_in counts.old other - times other (text.now ∷ [])) }
+    ensures left { OnOk result (CountsLess counts.old counts.new (text.now ∷ [])) }
 {
     let count = count_of(counts, text);
     if count == 0 {

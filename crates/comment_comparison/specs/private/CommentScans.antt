@@ -1,15 +1,11 @@
 -- What stands first in what is left of a plan's file.
-use Rattle.std.specs.Prelude.{◌≡◌, ℕ, ◌⊎◌, true, List, [], ◌∷◌, ◌++◌, codes, Option, Some, None}
+use Rattle.std.specs.Prelude.{◌≡◌, ℕ, ◌⊎◌, true, List, [], ◌∷◌, Option, Some, None}
 use Rattle.pap_tree.specs.White.{is_white}
 use Rattle.pap_reader.specs.Tags.{Tag, IsTag, NoTag}
 use Rattle.pap_reader.specs.Skipped.{NotPassed}
 use Rattle.plan_notes.specs.Lines.{line_text}
 use Rattle.plan_notes.specs.Contents.{IsComment}
 use Rattle.comment_comparison.specs.Comments.{LineComment, line_comment}
-
--- a comment with these bytes inside
-abbrev pub inside_marks : List ℕ → List ℕ
-inside_marks inside = codes "<!--" ++ (inside ++ codes "-->")
 
 -- a byte of white space stands first
 pub record IsWhiteRead (bytes rest : List ℕ) : Type 0 where

@@ -1,5 +1,5 @@
 -- How often texts that aren't aligned stand among those of the other side.
-use Rattle.std.specs.Prelude.{◌≡◌, ℕ, ◌-◌, List, [], ◌∷◌, ◌++◌, unwrap_or}
+use Rattle.std.specs.Prelude.{◌≡◌, ℕ, ◌+◌, ◌-◌, List, [], ◌∷◌, ◌++◌, unwrap_or}
 use Rattle.std.specs.Borrow.{Bor}
 use Rattle.std.specs.BTreeMap.{BTreeMap, get_by}
 use Rattle.std.specs.Cmp.Lexicographic.{slice_cmp}
@@ -13,6 +13,14 @@ use Rattle.comment_comparison.specs.CommentChanges.{times, gone_texts, new_texts
 -- the number that a map has for a text; 0 where it has none
 abbrev pub count_in : BTreeMap (Bor (List ℕ)) ℕ → List ℕ → ℕ
 count_in counts text = unwrap_or (get_by (λ key. slice_cmp nat_cmp text key.now) counts) 0
+
+-- the second map counts each text as often more as it stands among these
+abbrev pub CountsMore : (before after : BTreeMap (Bor (List ℕ)) ℕ) → List (List ℕ) → Type 0
+CountsMore before after texts = (text : List ℕ) → count_in after text ≡ count_in before text + times text texts
+
+-- the second map counts each text as often less
+abbrev pub CountsLess : (before after : BTreeMap (Bor (List ℕ)) ℕ) → List (List ℕ) → Type 0
+CountsLess before after texts = (text : List ℕ) → count_in after text ≡ count_in before text - times text texts
 
 -- the tally counts the texts of these changes, on both sides
 pub record IsTally (old new : List (List ℕ)) (changes : List CommentChange) (tally : Tally) : Type 0 where
