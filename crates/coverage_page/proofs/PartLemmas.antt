@@ -2,20 +2,12 @@
 use Rattle.std.proofs.Common.{◌≡◌, ℕ, ◌+◌, ◌<◌, Bool, true, false, List, [], ◌∷◌, ◌++◌, length, take, get_or, refl, sym, ap, ◌∙◌, append_assoc, arith}
 use Rattle.std.specs.Prelude.{codes, if◌then◌else◌}
 use Rattle.std.specs.List.{flat_map}
-use Rattle.std.proofs.lemmas.List.{append-nil, flat_map_more, take_more}
+use Rattle.std.proofs.lemmas.List.{append-nil}
 use Rattle.coverage_text.specs.CoverageItems.{CoverageItem}
+use Rattle.coverage_text.proofs.Laws.{one_more}
 use Rattle.coverage_page.specs.CoverageParts.{item_entry, tested_entry, list_text, entry_list}
 
--- one more item behind those so far
-pub one_more : {X : Type 0} (of : X → List ℕ) (xs : List X) (i : ℕ) (x : X) (before now next : List ℕ) → x ≡ get_or xs i x
-    → i < length xs → now ≡ before ++ flat_map of (take i xs) → next ≡ now ++ of x
-    → next ≡ before ++ flat_map of (take (i + 1) xs)
-one_more of xs i x before now next is lt so_far added =
-    added ∙ ap (λ l. l ++ of x) so_far ∙ flat_map_more of before (take i xs) x
-    ∙ ap (λ y. before ++ flat_map of (take i xs ++ y ∷ [])) is
-    ∙ ap (λ l. before ++ flat_map of l) (sym (take_more xs i x lt))
-
--- the same behind nothing
+-- one more item behind those so far, where nothing stands before them
 pub one_more_alone : {X : Type 0} (of : X → List ℕ) (xs : List X) (i : ℕ) (x : X) (now next : List ℕ) → x ≡ get_or xs i x
     → i < length xs → now ≡ flat_map of (take i xs) → next ≡ now ++ of x → next ≡ flat_map of (take (i + 1) xs)
 one_more_alone of xs i x now next is lt so_far added = one_more of xs i x [] now next is lt so_far added

@@ -1,2 +1,3 @@
 pub mod CoverageMarks
 pub mod CoverageParts
+pub mod private

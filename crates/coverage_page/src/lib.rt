@@ -2,6 +2,7 @@
 //! the drawings, and in them how many runs came to each statement.
 #![tactic(auto)]
 
+mod item_list;
 mod marks;
 mod part;
 

@@ -1,12 +1,13 @@
 //! The part of the page above the drawings.
 ghost use Rattle.std.specs.Prelude.{◌≡◌, ◌++◌, codes, IfOk, OnOk};
 ghost use Rattle.std.specs.List.{flat_map};
-ghost use Rattle.coverage_text.specs.CoverageItems.{is_never_reached, is_unreachable};
 ghost use Rattle.coverage_text.specs.Shares.{IsCountedWithin};
 ghost use Rattle.coverage_page.specs.CoverageParts.{share_sentence, counts_sentence, open_runs_sentence, counts_row, covered_row, covered_table};
 ghost use Rattle.coverage_page.specs.CoverageParts.{place_entry, item_entry, tested_entry, method_entries, list_text, entry_list, tested_list};
 ghost use Rattle.coverage_page.specs.CoverageParts.{coverage_head, coverage_lists, coverage_part};
+ghost use Rattle.coverage_page.specs.private.ItemLists.{is_in_list};
 
+use crate::item_list::ItemList;
 use coverage_text::{CoverageCounts, Item, MethodItems, count_methods, share_of};
 use flowchart_markup::{Fill, Page};
 use pap_tree::Name;
@@ -54,9 +55,9 @@ fn write_lists(part: &mut Page, methods: &[MethodItems]) -> Result<(), AllocErro
     ensures { OnOk result (part.new ≡ part.old ++ coverage_lists methods.now) }
 {
     part.put("<h3>Never reached</h3>\n", &[])?;
-    write_missed(part, methods)?;
+    write_listed(part, methods, ItemList::NeverReached)?;
     part.put("<h3>Unreachable within the ranges</h3>\n", &[])?;
-    write_unreachable(part, methods)?;
+    write_listed(part, methods, ItemList::Unreachable)?;
     part.put("</section>\n", &[])
 }
 
@@ -146,100 +147,71 @@ fn put_row(part: &mut Page, name: Name, counts: CoverageCounts) -> Result<(), Al
     )
 }
 
-/// Appends the list of what no run came to.
-fn write_missed(part: &mut Page, methods: &[MethodItems]) -> Result<(), AllocError>
-    ensures { OnOk result (part.new ≡ part.old ++ tested_list is_never_reached methods.now) }
+/// Appends a list of items.
+fn write_listed(part: &mut Page, methods: &[MethodItems], list: ItemList) -> Result<(), AllocError>
+    ensures { OnOk result (part.new ≡ part.old ++ tested_list (is_in_list list) methods.now) }
 {
-    let entries = missed_entries(part.alloc(), methods)?;
+    let entries = listed_entries(part.alloc(), methods, list)?;
     write_list(part, &entries)
 }
 
-/// The entries of what no run came to.
-fn missed_entries(alloc: Global, methods: &[MethodItems]) -> Result<Page, AllocError>
-    ensures { IfOk result (λ entries. entries ≡ flat_map (method_entries is_never_reached) methods.now) }
+/// The entries of a list of items.
+fn listed_entries(
+    alloc: Global,
+    methods: &[MethodItems],
+    list: ItemList,
+) -> Result<Page, AllocError>
+    ensures { IfOk result (λ entries.
+        entries ≡ flat_map (method_entries (is_in_list list)) methods.now) }
 {
     let mut entries = Page::new(alloc);
     for method in methods {
-        write_missed_of(&mut entries, method)?;
+        write_listed_of(&mut entries, method, list)?;
     }
     Ok(entries)
 }
 
-/// Appends the entries of a method's items to which no run came.
-fn write_missed_of(entries: &mut Page, method: &MethodItems) -> Result<(), AllocError>
-    ensures { OnOk result (entries.new ≡ entries.old ++ method_entries is_never_reached method.now) }
+/// Appends the entries of a method's items that are in a list.
+fn write_listed_of(
+    entries: &mut Page,
+    method: &MethodItems,
+    list: ItemList,
+) -> Result<(), AllocError>
+    ensures { OnOk result
+        (entries.new ≡ entries.old ++ method_entries (is_in_list list) method.now) }
 {
     let name = method.name();
     let items = method.items();
-    write_missed_items(entries, name, items)
+    write_listed_items(entries, name, items, list)
 }
 
-/// Appends the entries of some items of a method to which no run came.
-fn write_missed_items(entries: &mut Page, name: Name, items: &[Item]) -> Result<(), AllocError>
+/// Appends the entries of those of some items of a method that are in a list.
+fn write_listed_items(
+    entries: &mut Page,
+    name: Name,
+    items: &[Item],
+    list: ItemList,
+) -> Result<(), AllocError>
     ensures { OnOk result (entries.new ≡ entries.old
-        ++ flat_map (tested_entry is_never_reached name) items.now) }
+        ++ flat_map (tested_entry (is_in_list list) name) items.now) }
 {
     for item in items {
-        write_missed_item(entries, name, item)?;
+        write_listed_item(entries, name, item, list)?;
     }
     Ok(())
 }
 
-/// Appends the entry of an item to which no run came; nothing of another.
-fn write_missed_item(entries: &mut Page, name: Name, item: &Item) -> Result<(), AllocError>
-    ensures { OnOk result (entries.new ≡ entries.old ++ tested_entry is_never_reached name item.now) }
+/// Appends the entry of an item that is in a list; nothing of another.
+fn write_listed_item(
+    entries: &mut Page,
+    name: Name,
+    item: &Item,
+    list: ItemList,
+) -> Result<(), AllocError>
+    ensures { OnOk result
+        (entries.new ≡ entries.old ++ tested_entry (is_in_list list) name item.now) }
 {
-    if item.is_never_reached() {
-        write_entry(entries, name, item)
-    } else {
-        Ok(())
-    }
-}
-
-/// Appends the list of what no run within the ranges may come to.
-fn write_unreachable(part: &mut Page, methods: &[MethodItems]) -> Result<(), AllocError>
-    ensures { OnOk result (part.new ≡ part.old ++ tested_list is_unreachable methods.now) }
-{
-    let entries = unreachable_entries(part.alloc(), methods)?;
-    write_list(part, &entries)
-}
-
-/// The entries of what no run within the ranges may come to.
-fn unreachable_entries(alloc: Global, methods: &[MethodItems]) -> Result<Page, AllocError>
-    ensures { IfOk result (λ entries. entries ≡ flat_map (method_entries is_unreachable) methods.now) }
-{
-    let mut entries = Page::new(alloc);
-    for method in methods {
-        write_unreachable_of(&mut entries, method)?;
-    }
-    Ok(entries)
-}
-
-/// Appends the entries of a method's items to which no run within the ranges may come.
-fn write_unreachable_of(entries: &mut Page, method: &MethodItems) -> Result<(), AllocError>
-    ensures { OnOk result (entries.new ≡ entries.old ++ method_entries is_unreachable method.now) }
-{
-    let name = method.name();
-    let items = method.items();
-    write_unreachable_items(entries, name, items)
-}
-
-/// Appends the entries of some items of a method to which no run within the ranges may come.
-fn write_unreachable_items(entries: &mut Page, name: Name, items: &[Item]) -> Result<(), AllocError>
-    ensures { OnOk result (entries.new ≡ entries.old
-        ++ flat_map (tested_entry is_unreachable name) items.now) }
-{
-    for item in items {
-        write_unreachable_item(entries, name, item)?;
-    }
-    Ok(())
-}
-
-/// Appends the entry of an item to which no run within the ranges may come; nothing of another.
-fn write_unreachable_item(entries: &mut Page, name: Name, item: &Item) -> Result<(), AllocError>
-    ensures { OnOk result (entries.new ≡ entries.old ++ tested_entry is_unreachable name item.now) }
-{
-    if item.is_unreachable() {
+    if list.has(item) {
         write_entry(entries, name, item)
     } else {
         Ok(())

@@ -1,2 +1,3 @@
-mod CountLemmas
+pub mod Laws
+pub mod CountLemmas
 mod ItemLemmas

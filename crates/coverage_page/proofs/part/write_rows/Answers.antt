@@ -1,5 +1,5 @@
+use Rattle.coverage_text.proofs.Laws.{one_more}
 use Rattle.coverage_page.specs.CoverageParts.{covered_row}
-use Rattle.coverage_page.proofs.PartLemmas.{one_more}
 use Rattle.coverage_page.proofs.part.write_rows.Goals as goal
 
 pub loop-method-preserved : goal.loop-method-preserved

@@ -1,7 +1,7 @@
 use Rattle.std.proofs.Common.{◌++◌, ap, ◌∙◌}
 use Rattle.std.proofs.lemmas.Result.{on_ok_weaker}
 use Rattle.coverage_page.specs.CoverageParts.{entry_list}
-use Rattle.coverage_page.proofs.part.write_missed.Goals as goal
+use Rattle.coverage_page.proofs.part.write_listed.Goals as goal
 
 pub returns : goal.returns
 returns c =

@@ -1,8 +1,0 @@
-use Rattle.std.proofs.Common.{◌≡◌, ◌++◌, take}
-use Rattle.std.specs.List.{flat_map}
-use Rattle.coverage_text.specs.CoverageItems.{is_unreachable}
-use Rattle.coverage_page.specs.CoverageParts.{method_entries}
-use Rattle.coverage_page.proofs.part.unreachable_entries.Given as goal
-
-abbrev pub invariant-loop-method : goal.invariant-loop-method
-invariant-loop-method l = l.entries ≡ flat_map (method_entries is_unreachable) (take l.method-index l.methods)
