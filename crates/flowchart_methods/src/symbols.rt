@@ -144,7 +144,7 @@ fn put_word_behind(
     match exit {
         ExitKind::Open => page.put("<text class=\"y\" x=\"%\" y=\"%\">%</text>", &fills),
         ExitKind::Taken => page.put("<text class=\"y ran\" x=\"%\" y=\"%\">%</text>", &fills),
-        ExitKind::Counted(count) => put_counted_behind(page, x, y, word, count),
+        ExitKind::Counted(count) => put_counted(page, x, y, word, Anchor::Begins, count),
         ExitKind::Missed => page.put(
             "<text class=\"y missed\" x=\"%\" y=\"%\">% missed</text>",
             &fills,
@@ -174,7 +174,7 @@ fn put_word_before(
     match exit {
         ExitKind::Open => page.put("<text class=\"e\" x=\"%\" y=\"%\">%</text>", &fills),
         ExitKind::Taken => page.put("<text class=\"e ran\" x=\"%\" y=\"%\">%</text>", &fills),
-        ExitKind::Counted(count) => put_counted_before(page, x, y, word, count),
+        ExitKind::Counted(count) => put_counted(page, x, y, word, Anchor::Ends, count),
         ExitKind::Missed => page.put(
             "<text class=\"e missed\" x=\"%\" y=\"%\">%</text><text class=\"y missed\" x=\"%\" y=\"%\">missed</text>",
             &fills,
@@ -186,44 +186,27 @@ fn put_word_before(
     }
 }
 
-/// Appends a word that stands behind the line of its way, and how many runs took the way.
-fn put_counted_behind(
+/// Appends a word of a way and how many runs took the way: behind the word, or where the word stands before the line, behind the line.
+fn put_counted(
     page: &mut Page,
     x: Px,
     y: Px,
     word: &str,
+    anchor: Anchor,
     count: u64,
 ) -> Result<(), AllocError> {
-    page.put(
-        "<text class=\"y\" x=\"%\" y=\"%\">% %</text>",
-        &[
-            px(x),
-            px(y),
-            Fill::Text(word.as_bytes()),
-            Fill::Number(count),
-        ],
-    )
-}
-
-/// Appends a word that stands before the line of its way, and behind the line how many runs took the way.
-fn put_counted_before(
-    page: &mut Page,
-    x: Px,
-    y: Px,
-    word: &str,
-    count: u64,
-) -> Result<(), AllocError> {
-    page.put(
-        "<text class=\"e\" x=\"%\" y=\"%\">%</text><text class=\"y\" x=\"%\" y=\"%\">%</text>",
-        &[
-            px(x),
-            px(y),
-            Fill::Text(word.as_bytes()),
-            px(x + WORD_SIDES),
-            px(y),
-            Fill::Number(count),
-        ],
-    )
+    let word = Fill::Text(word.as_bytes());
+    let count = Fill::Number(count);
+    match anchor {
+        Anchor::Begins => page.put(
+            "<text class=\"y\" x=\"%\" y=\"%\">% %</text>",
+            &[px(x), px(y), word, count],
+        ),
+        Anchor::Ends => page.put(
+            "<text class=\"e\" x=\"%\" y=\"%\">%</text><text class=\"y\" x=\"%\" y=\"%\">%</text>",
+            &[px(x), px(y), word, px(x + WORD_SIDES), px(y), count],
+        ),
+    }
 }
 
 /// Appends comments beside the spine.
