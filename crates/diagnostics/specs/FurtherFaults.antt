@@ -1,23 +1,51 @@
--- What is told of a refused plan behind the refusal itself.
-use Rattle.std.specs.Prelude.{◌≡◌, ℕ, List, [], ◌∷◌, map}
+-- What is told of a refused plan behind the refusal itself: the other faults that the same stage of acceptance has.
+use Rattle.std.specs.Prelude.{◌≡◌, ℕ, List, [], ◌∷◌, Ok, map}
+use Rattle.pap_tree.specs.Flowchart.{Flowchart}
+use Rattle.limits_file.specs.declared.limits.Limits.{Limits}
+use Rattle.limits_file.specs.RangeFiles.{FileSays}
+use Rattle.pap_types.specs.AllFaults.{type_faults}
+use Rattle.pap_plan.specs.LimitFaults.{limit_faults}
 use Rattle.pap_plan.specs.StageRefusals.{text_refusal}
 use Rattle.pap_plan.specs.declared.refusal.PlanRefusal.{PlanRefusal}
 use Rattle.pap_plan.specs.declared.refusal.PlanRefusal.TheVariants as refusals
 use Rattle.plain_words.specs.Places.{PlanFiles}
+use Rattle.plan_text.specs.Plans.{IsPlan}
 use Rattle.plan_text.specs.declared.fault.PlanFault.{PlanFault}
-use Rattle.plan_text.specs.declared.fault.PlanFault.TheVariants as texts
 use Rattle.diagnostics.specs.ExpressionFaults.{AreExpressionFaults}
 use Rattle.diagnostics.specs.FaultLines.{IsPlanLine, TellsEach}
 
--- behind the first text that isn't an expression, the faults of all others; else nothing more
-abbrev pub AreFurther : List ℕ → PlanRefusal → List PlanRefusal → Type 0
-AreFurther plan (refusals.Expr spot fault) further =
-    (others : List PlanFault) × AreExpressionFaults plan (texts.Expr spot fault ∷ others)
-    × (further ≡ map text_refusal others)
-AreFurther plan _ further = further ≡ []
+-- these are the faults of all expressions of a plan, as refusals
+pub record AreTextRefusals (plan : List ℕ) (all : List PlanRefusal) : Type 0 where
+  pub faults : List PlanFault
+  pub found : AreExpressionFaults plan faults
+  pub are : all ≡ map text_refusal faults
+
+-- these are all faults of the names and kinds of a plan, as refusals
+pub record AreTypeRefusals (plan : List ℕ) (all : List PlanRefusal) : Type 0 where
+  pub flowchart : Flowchart
+  pub read : IsPlan plan flowchart
+  pub are : all ≡ map refusals.Types (type_faults flowchart)
+
+-- these are all faults of a range file's entries beside its plan
+pub record AreLimitRefusals (plan limits : List ℕ) (all : List PlanRefusal) : Type 0 where
+  pub flowchart : Flowchart
+  pub ranges : Limits
+  pub read : IsPlan plan flowchart
+  pub says : FileSays limits (Ok ranges)
+  pub are : all ≡ limit_faults flowchart ranges
+
+-- all faults of a stage, of which the first is the refusal: of expressions, of names and kinds, or of a range file's entries. At the
+-- other stages it is the only one
+abbrev pub AreAllFaults : List ℕ → List ℕ → PlanRefusal → List PlanRefusal → Type 0
+AreAllFaults plan limits (refusals.Expr spot fault) all = AreTextRefusals plan all
+AreAllFaults plan limits (refusals.Types fault) all = AreTypeRefusals plan all
+AreAllFaults plan limits (refusals.LimitName name) all = AreLimitRefusals plan limits all
+AreAllFaults plan limits (refusals.LimitKind name) all = AreLimitRefusals plan limits all
+AreAllFaults plan limits (refusals.Bind name) all = AreLimitRefusals plan limits all
+AreAllFaults plan limits refusal all = all ≡ refusal ∷ []
 
 -- the text tells the refusal of these files' plan and then its further faults
 pub record TellsFaults (files : PlanFiles) (refusal : PlanRefusal) (text : List ℕ) : Type 0 where
   pub further : List PlanRefusal
-  pub are : AreFurther files.plan.bytes refusal further
+  pub are : AreAllFaults files.plan.bytes files.ranges.bytes refusal (refusal ∷ further)
   pub tells : TellsEach (IsPlanLine files) (refusal ∷ further) text

@@ -1,2 +1,3 @@
 pub mod FaultViews
 pub mod LineViews
+pub mod StageViews

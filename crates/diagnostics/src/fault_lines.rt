@@ -1,14 +1,11 @@
 //! Several faults, a line each.
 ghost use Rattle.std.specs.Prelude.{◌≡◌, ◌∷◌, ◌++◌, ◌≤◌, [], IfOk, OnOk, length, take};
 ghost use Rattle.std.specs.String.{string_bytes};
-ghost use Rattle.pap_plan.specs.StageRefusals.{text_refusal};
 ghost use Rattle.plain_words.specs.Places.{files_of};
 ghost use Rattle.diagnostics.specs.FaultLines.{IsPlanLine, IsStateLine, TellsEach, lines_with, more_line};
-ghost use Rattle.diagnostics.specs.private.LineViews.{IsFaultLine};
 
 use pap_plan::PlanRefusal;
 use plain_words::{RunReason, TextFile, plan_words, state_words};
-use plan_text::PlanFault;
 use std::alloc::{AllocError, Global};
 
 /// So many faults are told, each in a line; of the others it is said how many they are.
@@ -57,48 +54,6 @@ pub fn state_lines(
     }
     put_more(&mut text, reasons.len() - told.len())?;
     Ok(text)
-}
-
-/// What is wrong with a plan's text, in lines: the words of the first 20 faults, and then how many more there are. Fails only for lack of
-/// memory.
-pub(crate) fn expression_lines(
-    alloc: Global,
-    plan: TextFile<'_>,
-    limits: TextFile<'_>,
-    faults: &[PlanFault],
-) -> Result<String, AllocError>
-    ensures { IfOk result (λ text. TellsEach (IsFaultLine (files_of plan.entry limits.entry))
-        faults.now (string_bytes text)) }
-{
-    let told = front(faults, MOST_TOLD);
-    let mut text = String::new(alloc);
-    for fault in told {
-        let words = fault_words(alloc, plan, limits, fault)?;
-        put_line(&mut text, &words)?;
-    }
-    put_more(&mut text, faults.len() - told.len())?;
-    Ok(text)
-}
-
-/// The words of a fault of a plan's text.
-fn fault_words(
-    alloc: Global,
-    plan: TextFile<'_>,
-    limits: TextFile<'_>,
-    fault: &PlanFault,
-) -> Result<String, AllocError>
-    ensures { IfOk result (λ words. IsFaultLine (files_of plan.entry limits.entry)
-        fault.now (string_bytes words)) }
-{
-    let refusal = text_refusal(*fault);
-    plan_words(alloc, plan, limits, &refusal)
-}
-
-/// A fault of a plan's text, as a refusal.
-fn text_refusal(fault: PlanFault) -> PlanRefusal
-    ensures { result ≡ text_refusal fault }
-{
-    PlanRefusal::from(fault)
 }
 
 /// The first of some faults, at most so many.

@@ -1,10 +1,11 @@
-//! All reasons why a run has no inputs, all faults of a plan's expressions, and faults that are told line by line.
+//! All reasons why a run has no inputs, all faults of the stage that a plan doesn't pass, and faults that are told line by line.
 #![tactic(auto)]
 
 mod expressions;
 mod fault_lines;
 mod reasons;
 mod refusals;
+mod stages;
 
 pub use expressions::{expression_faults, expression_laws};
 pub use fault_lines::{MOST_TOLD, plan_lines, state_lines};

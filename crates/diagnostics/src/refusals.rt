@@ -1,18 +1,19 @@
 //! A refused plan, with all that is told of it.
-ghost use Rattle.std.specs.Prelude.{IfOk};
+ghost use Rattle.std.specs.Prelude.{◌≡◌, IfOk, drop};
 ghost use Rattle.std.specs.String.{string_bytes};
 ghost use Rattle.pap_plan.specs.Acceptance.{IsRefused};
 ghost use Rattle.plain_words.specs.Places.{files_of};
 ghost use Rattle.diagnostics.specs.FurtherFaults.{TellsFaults};
 
-use crate::expressions::expression_faults;
-use crate::fault_lines::{expression_lines, plan_lines};
+use crate::fault_lines::plan_lines;
+use crate::stages::stage_faults;
 use pap_plan::PlanRefusal;
 use plain_words::TextFile;
 use std::alloc::{AllocError, Global};
 
-/// Why a plan is refused, in lines: the words of the refusal, and where that is an expression, the words of the faults of all others
-/// behind it. They are at most 20, and then it is said how many more there are. Fails only for lack of memory.
+/// Why a plan is refused, in lines: the words of the refusal, and behind it those of the other faults of its stage, where that is one of
+/// expressions, of names and kinds, or of the range file's entries beside the plan. They are at most 20, and then it is said how many more
+/// there are. Fails only for lack of memory.
 pub fn refusal_lines(
     alloc: Global,
     plan: TextFile<'_>,
@@ -23,11 +24,17 @@ pub fn refusal_lines(
     ensures { IfOk result (λ text.
         TellsFaults (files_of plan.entry limits.entry) refusal.now (string_bytes text)) }
 {
-    match refusal {
-        PlanRefusal::Expr { .. } => {
-            let faults = expression_faults(alloc, plan.bytes)?;
-            expression_lines(alloc, plan, limits, &faults)
-        }
-        _ => plan_lines(alloc, plan, limits, refusal, &[]),
+    let faults = stage_faults(alloc, plan.bytes, limits.bytes, refusal)?;
+    plan_lines(alloc, plan, limits, refusal, behind_first(&faults))
+}
+
+/// What stands behind the first of some faults.
+fn behind_first(faults: &[PlanRefusal]) -> &[PlanRefusal]
+    ensures { result.now ≡ drop 1 faults.now }
+{
+    if faults.is_empty() {
+        faults
+    } else {
+        &faults[1..]
     }
 }
