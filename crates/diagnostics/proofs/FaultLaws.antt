@@ -9,7 +9,7 @@ use Rattle.pap_tree.specs.Grammar.{Line, Level, Assignment, Constant}
 use Rattle.pap_tree.specs.Names.{main_name}
 use Rattle.pap_tree.specs.Stopping.{Cause, syntax, unsupported, binary_fraction, number, deep}
 use Rattle.expr_grammar.specs.Lines.{IsWholeLine, a_test, an_assignment, a_constant}
-use Rattle.expr_grammar.proofs.Laws as grammar
+use Rattle.expr_grammar.proofs.Laws.{accepted_or_wrong, one_wrong}
 use Rattle.expr_tokens.proofs.Laws.{one_reading}
 use Rattle.pap_expr.specs.declared.fault.ExprFault.{ExprFault}
 use Rattle.pap_expr.specs.declared.fault.ExprFault.TheVariants as exprs
@@ -20,7 +20,7 @@ use Rattle.pap_reader.specs.Elements.{IsElements, IsFault}
 use Rattle.pap_reader.specs.Trees.{RawDeclaration, RawBody, RawRoutine, ElementTree}
 use Rattle.pap_reader.specs.Trees as raw
 use Rattle.pap_reader.specs.TreeLimits.{raw_written}
-use Rattle.pap_reader.proofs.Laws as elements
+use Rattle.pap_reader.proofs.Laws.{always_one}
 use Rattle.plan_text.specs.declared.fault.Spot.{Spot}
 use Rattle.plan_text.specs.declared.fault.Spot.TheVariants.{Statement, Declared}
 use Rattle.plan_text.specs.ExprFaults.{IsExprFault}
@@ -65,13 +65,13 @@ one_fault : (s : Site) → IsWholeLine s.line → (f g : ExprFault) → IsExprFa
 one_fault s w f g h k =
     let a = is_wrong s.line s.text f h in
     let b = is_wrong s.line s.text g k in
-    let e = grammar.one_wrong (one_reading 0) s.line w s.text (cause_of f) (cause_of g) (place_of f) (place_of g) a.0 b.0 in
+    let e = one_wrong (one_reading 0) s.line w s.text (cause_of f) (cause_of g) (place_of f) (place_of g) a.0 b.0 in
     sym a.1 ∙ ap (λ c. fault_of c (place_of f)) e.0 ∙ ap (fault_of (cause_of g)) e.1 ∙ b.1
 
 not_both : (s : Site) → IsWholeLine s.line → IsReadable s → (f : ExprFault) → IsExprFault s.line s.text f → ⊥
 not_both s w r f k =
     let a = is_wrong s.line s.text f k in
-    grammar.accepted_or_wrong (one_reading 0) s.line w s.text r.0 (cause_of f) (place_of f) r.1 a.0
+    accepted_or_wrong (one_reading 0) s.line w s.text r.0 (cause_of f) (place_of f) r.1 a.0
 
 -- ---- all texts of a plan are read by lines that stand alone
 
@@ -121,7 +121,7 @@ one_list (s ∷ sites) w a b (inr h) (inr k) =
     (one_list sites (All-tail Whole s sites w) h.1 k.1 h.4 k.4) ∙ sym k.3
 
 pub one_fault_list : HaveOneFaultList
-one_fault_list plan a b h k = by (elements.always_one plan)
+one_fault_list plan a b h k = by (always_one plan)
   where
     by : ((x : ElementTree) × IsElements plan x) ⊎ ((f : ReadFault) × IsFault plan f) → a ≡ b
     by (inl e) = one_list (sites_of e.0) (sites_whole e.0) a b (h.read e.0 e.1) (k.read e.0 e.1)
@@ -187,7 +187,7 @@ first_among sites w faults h spot fault k =
 pub first_answered : FirstFaultIsAnswered
 first_answered plan limits faults h spot fault = (
   λ k. first_among (sites_of k.0) (sites_whole k.0) faults (h.read k.0 k.1) spot fault k.2,
-  λ e. by e (elements.always_one plan),
+  λ e. by e (always_one plan),
 )
   where
     by : slice_get faults 0 ≡ Some (texts.Expr spot fault) → ((x : ElementTree) × IsElements plan x) ⊎ ((f : ReadFault) × IsFault plan f)
