@@ -32,6 +32,7 @@ use Rattle.plan_text.specs.declared.fault.PlanFault.TheVariants as texts
 use Rattle.plan_text.proofs.Laws.{one_plan, never_both}
 use Rattle.diagnostics.specs.FaultLines.{IsPlanLine, TellsEach}
 use Rattle.diagnostics.specs.FurtherFaults.{AreAllFaults, AreLimitRefusals, AreTextRefusals, AreTypeRefusals, TellsFaults}
+use Rattle.diagnostics.specs.Operands.{TellsOperands}
 use Rattle.diagnostics.specs.private.StageViews.{AreFaultsBeside}
 use Rattle.diagnostics.proofs.FaultLaws.{first_answered}
 
@@ -232,12 +233,15 @@ beside_found plan limits f all read h = record { flowchart = f; ranges = h.0; re
 
 -- ---- the lines
 
-pub tells_faults : (files : PlanFiles) (r : PlanRefusal) (further told : List PlanRefusal) → told ≡ further
-    → AreAllFaults files.plan.bytes files.ranges.bytes r (r ∷ further) → (lines : Result (String Global) AllocError)
-    → IfOk lines (λ text. TellsEach (IsPlanLine files) (r ∷ told) (string_bytes text)) → IfOk lines (λ text. TellsFaults files r (string_bytes text))
-tells_faults files r further told same all (Ok text) h = record {
+pub tells_faults : (files : PlanFiles) (r : PlanRefusal) (further told : List PlanRefusal) (lines operands text : List ℕ) → told ≡ further
+    → AreAllFaults files.plan.bytes files.ranges.bytes r (r ∷ further) → TellsEach (IsPlanLine files) (r ∷ told) lines
+    → TellsOperands files.plan.bytes files.ranges.bytes r operands → text ≡ lines ++ operands → TellsFaults files r text
+tells_faults files r further told lines operands text same all h known is = record {
   further = further;
   are = all;
-  tells = subst (λ l. TellsEach (IsPlanLine files) (r ∷ l) (string_bytes text)) same h;
+  lines = lines;
+  tells = subst (λ l. TellsEach (IsPlanLine files) (r ∷ l) lines) same h;
+  operands = operands;
+  known = known;
+  is = is;
 }
-tells_faults files r further told same all (Err e) h = tt

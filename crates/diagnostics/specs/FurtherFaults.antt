@@ -1,5 +1,6 @@
--- What is told of a refused plan behind the refusal itself: the other faults that the same stage of acceptance has.
-use Rattle.std.specs.Prelude.{◌≡◌, ℕ, List, [], ◌∷◌, Ok, map}
+-- What is told of a refused plan behind the refusal itself: the other faults that the same stage of acceptance has, and the ranges of
+-- the operands at a node that may fail.
+use Rattle.std.specs.Prelude.{◌≡◌, ℕ, List, [], ◌∷◌, ◌++◌, Ok, map}
 use Rattle.pap_tree.specs.Flowchart.{Flowchart}
 use Rattle.limits_file.specs.declared.limits.Limits.{Limits}
 use Rattle.limits_file.specs.RangeFiles.{FileSays}
@@ -13,6 +14,7 @@ use Rattle.plan_text.specs.Plans.{IsPlan}
 use Rattle.plan_text.specs.declared.fault.PlanFault.{PlanFault}
 use Rattle.diagnostics.specs.ExpressionFaults.{AreExpressionFaults}
 use Rattle.diagnostics.specs.FaultLines.{IsPlanLine, TellsEach}
+use Rattle.diagnostics.specs.Operands.{TellsOperands}
 
 -- these are the faults of all expressions of a plan, as refusals
 pub record AreTextRefusals (plan : List ℕ) (all : List PlanRefusal) : Type 0 where
@@ -44,8 +46,12 @@ AreAllFaults plan limits (refusals.LimitKind name) all = AreLimitRefusals plan l
 AreAllFaults plan limits (refusals.Bind name) all = AreLimitRefusals plan limits all
 AreAllFaults plan limits refusal all = all ≡ refusal ∷ []
 
--- the text tells the refusal of these files' plan and then its further faults
+-- the text tells the refusal of these files' plan, then its further faults, and then the ranges of a failing node's operands
 pub record TellsFaults (files : PlanFiles) (refusal : PlanRefusal) (text : List ℕ) : Type 0 where
   pub further : List PlanRefusal
   pub are : AreAllFaults files.plan.bytes files.ranges.bytes refusal (refusal ∷ further)
-  pub tells : TellsEach (IsPlanLine files) (refusal ∷ further) text
+  pub lines : List ℕ
+  pub tells : TellsEach (IsPlanLine files) (refusal ∷ further) lines
+  pub operands : List ℕ
+  pub known : TellsOperands files.plan.bytes files.ranges.bytes refusal operands
+  pub is : text ≡ lines ++ operands

@@ -1,5 +1,6 @@
 pub mod ExpressionFaults
 pub mod FaultLines
 pub mod FurtherFaults
+pub mod Operands
 pub mod RunReasons
 pub mod private

@@ -3,6 +3,7 @@
 
 mod expressions;
 mod fault_lines;
+mod operands;
 mod reasons;
 mod refusals;
 mod stages;

@@ -6,6 +6,7 @@ ghost use Rattle.plain_words.specs.Places.{files_of};
 ghost use Rattle.diagnostics.specs.FurtherFaults.{TellsFaults};
 
 use crate::fault_lines::plan_lines;
+use crate::operands::operands_told;
 use crate::stages::stage_faults;
 use pap_plan::PlanRefusal;
 use plain_words::TextFile;
@@ -13,7 +14,8 @@ use std::alloc::{AllocError, Global};
 
 /// Why a plan is refused, in lines: the words of the refusal, and behind it those of the other faults of its stage, where that is one of
 /// expressions, of names and kinds, or of the range file's entries beside the plan. They are at most 20, and then it is said how many more
-/// there are. Fails only for lack of memory.
+/// there are. Where a node may fail on inputs within their ranges, a line says within which ranges its operands lie there. Fails only for
+/// lack of memory.
 pub fn refusal_lines(
     alloc: Global,
     plan: TextFile<'_>,
@@ -25,7 +27,10 @@ pub fn refusal_lines(
         TellsFaults (files_of plan.entry limits.entry) refusal.now (string_bytes text)) }
 {
     let faults = stage_faults(alloc, plan.bytes, limits.bytes, refusal)?;
-    plan_lines(alloc, plan, limits, refusal, behind_first(&faults))
+    let mut text = plan_lines(alloc, plan, limits, refusal, behind_first(&faults))?;
+    let operands = operands_told(alloc, plan.bytes, limits.bytes, refusal)?;
+    text.push_str(&operands)?;
+    Ok(text)
 }
 
 /// What stands behind the first of some faults.
