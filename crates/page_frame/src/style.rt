@@ -36,7 +36,7 @@ tr.bad th,tr.bad td{background:var(--badbg);color:var(--bad)}
 .tab span{display:inline-block;margin:0 12px 0 0;font:12.5px/1.5 ui-monospace,\"DejaVu Sans Mono\",Menlo,Consolas,monospace}
 .tab i{font-style:normal;color:var(--mute);font-size:10px;margin-right:4px}
 #methods{display:flex;flex-wrap:wrap;align-items:flex-start;gap:36px 40px}#methods h2{flex:0 0 100%;margin-bottom:-30px}#methods>.com{flex:0 0 100%}.key{flex:0 0 100%;max-width:none;color:var(--mute);font-size:13px}.key+.key{margin-top:-26px}.m{min-width:280px;max-width:100%;padding-top:12px;border-top:1px solid var(--rule)}.m.bad h3{color:var(--bad)}
-.fig{margin-top:12px;overflow-x:auto}.fig svg{max-width:none}
+.fig{margin-top:12px}.fig,.key{overflow-x:auto}:is(.fig,.key) svg{max-width:none}
 svg{display:block;max-width:100%;height:auto;font:12px ui-monospace,\"DejaVu Sans Mono\",Menlo,Consolas,\"Liberation Mono\",monospace}
 svg text{fill:var(--fg)}tspan{fill:var(--mute)}.s.bad tspan{fill:inherit}
 .l{fill:none;stroke:var(--line);stroke-width:1.3}.a{fill:var(--line)}
