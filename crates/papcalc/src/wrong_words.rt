@@ -11,50 +11,95 @@ pub fn what_is_wrong(alloc: Global, words: &[String]) -> Result<Option<String>, 
         return Ok(None);
     };
     let said = match command.as_str() {
-        "check" => {
-            let count = rest.len();
-            format!(in alloc; "`check` takes two words, PLAN and LIMITS, and not {count}")?
-        }
+        "check" => wrong_files(alloc, rest)?,
         "once" if rest.len() < 2 => {
-            format!(in alloc; "`once` takes the words PLAN and LIMITS, and then values")?
+            let count = rest.len();
+            format!(in alloc;
+                "`once` takes two words, PLAN and LIMITS, and then values, and has {count} here"
+            )?
         }
         "once" => return wrong_value(alloc, &rest[2..]),
-        "run" | "save" => format!(in alloc;
-            "`{command}` reads its script from standard input, as papcalc {command} < SCRIPT, and takes no word behind it"
-        )?,
-        "sample" => format!(in alloc;
-            "`sample` takes one number of employees, 1 to 200, without a sign or zeros before it"
-        )?,
+        "run" | "save" => wrong_script(alloc, command, rest)?,
+        "sample" => wrong_count(alloc, rest)?,
+        "--help" | "-h" | "help" | "--version" | "-V" => {
+            format!(in alloc; "`{command}` stands alone, without a word behind it")?
+        }
         _ => {
             let shown = one_line(alloc, command)?;
             format!(in alloc;
-                "`{shown}` is no command; there are check, once, run, save and sample"
+                "`{shown}` is not a command; there are check, once, run, save, sample, help and --version"
             )?
         }
     };
     Ok(Some(said))
 }
 
+/// Why the words behind `check` aren't the names of two files.
+fn wrong_files(alloc: Global, words: &[String]) -> Result<String, AllocError> {
+    let count = words.len();
+    let [_, _, third, more @ ..] = words else {
+        return format!(in alloc; "`check` takes two words, PLAN and LIMITS, and not {count}");
+    };
+    let shown = one_line(alloc, third)?;
+    let many = if more.is_empty() {
+        "is one too many"
+    } else {
+        "and what follows are too many"
+    };
+    let values = if third.contains('=') {
+        "; `once` takes values"
+    } else {
+        ""
+    };
+    format!(in alloc;
+        "`check` takes two words, PLAN and LIMITS, and not {count}: `{shown}` {many}{values}"
+    )
+}
+
+/// Why `run` or `save` with words behind it isn't a command.
+fn wrong_script(alloc: Global, command: &str, words: &[String]) -> Result<String, AllocError> {
+    let [script] = words else {
+        return format!(in alloc;
+            "`{command}` takes no word behind it; it reads its script from standard input, as papcalc {command} < SCRIPT"
+        );
+    };
+    let shown = one_line(alloc, script)?;
+    format!(in alloc;
+        "`{command}` takes no word behind it, and has `{shown}` here; it reads its script from standard input, as papcalc {command} < {shown}"
+    )
+}
+
+/// Why the words behind `sample` aren't a number of employees.
+fn wrong_count(alloc: Global, words: &[String]) -> Result<String, AllocError> {
+    let [word] = words else {
+        let count = words.len();
+        return format!(in alloc;
+            "`sample` takes one word, the number of employees, 1 to 200, and not {count}"
+        );
+    };
+    let shown = one_line(alloc, word)?;
+    format!(in alloc;
+        "`sample` takes a number of employees, 1 to 200, without a sign or zeros before it, and not `{shown}`"
+    )
+}
+
 /// Which of the values of `once` is wrong, and why.
 fn wrong_value(alloc: Global, values: &[String]) -> Result<Option<String>, AllocError> {
     if let Some(word) = bad_value(values) {
-        let shown = one_line(alloc, word)?;
-        let said = format!(in alloc;
-            "`{shown}` is not of the form NAME=VALUE with a name and a number of at most 30 decimal places and at most 10^37 without its point; a number has a point before decimal places and nothing between thousands, as 2500.55"
-        )?;
-        return Ok(Some(said));
+        return Ok(Some(wrong_form(alloc, word)?));
     }
     let mut read = Values::new(alloc);
     for word in values {
         let Some(value) = NamedValue::read(word.as_bytes()) else {
             return Ok(None);
         };
+        let name = value.name;
         match read.insert(value) {
             Ok(()) => {}
             Err(InsertFault::Twice) => {
                 let shown = one_line(alloc, word)?;
                 let said = format!(in alloc;
-                    "a value stands under the name of `{shown}` already; give each name once"
+                    "{name} stands twice, again in `{shown}`; give each name once"
                 )?;
                 return Ok(Some(said));
             }
@@ -66,4 +111,23 @@ fn wrong_value(alloc: Global, values: &[String]) -> Result<Option<String>, Alloc
         }
     }
     Ok(None)
+}
+
+/// Why a word isn't of the form NAME=VALUE: it has no `=`, or what stands on a side of its first one isn't of its form.
+fn wrong_form(alloc: Global, word: &str) -> Result<String, AllocError> {
+    let shown = one_line(alloc, word)?;
+    let Some((name, _)) = word.split_once('=') else {
+        return format!(in alloc;
+            "`{shown}` has no `=`; a value stands behind its name, as PAY=2500.55"
+        );
+    };
+    let zero = format!(in alloc; "{name}=0")?;
+    if NamedValue::read(zero.as_bytes()).is_none() {
+        return format!(in alloc;
+            "`{shown}` has no name before its `=`; a name is 1 to 32 letters, digits or `_`, and doesn't begin with a digit"
+        );
+    }
+    format!(in alloc;
+        "`{shown}` has no number behind its `=`, or one of more than 30 decimal places or beyond 10^37 without its point; a number has a point before decimal places and nothing between thousands, as 2500.55"
+    )
 }
