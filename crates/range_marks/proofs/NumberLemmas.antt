@@ -1,6 +1,6 @@
 -- Internals by name and by number.
-use Rattle.std.proofs.Common.{◌≡◌, ◌⊎◌, inl, inr, ℕ, suc, ◌+◌, ◌-◌, ◌<◌, ◌≤◌, true, false, List, [], ◌∷◌, ◌++◌, length, map, get_or, refl, sym, ap, ◌∙◌, subst, arith, append_assoc, length-append}
-use Rattle.std.specs.Prelude.{◌≢◌, ◌↔◌, Option, Some, None, option_map, SomeIff, position, slice_get}
+use Rattle.std.proofs.Common.{◌≡◌, ◌⊎◌, inl, inr, ℕ, suc, ◌+◌, ◌-◌, ◌<◌, ◌≤◌, true, false, Vec, Global, vec_len, List, [], ◌∷◌, ◌++◌, length, map, get_or, sym, ap, ◌∙◌, subst, arith, append_assoc, length-append}
+use Rattle.std.specs.Prelude.{◌↔◌, Option, Some, None, option_map, SomeIff, position, slice_get}
 use Rattle.std.specs.List.{position_or_len}
 use Rattle.std.specs.Str.{bytes_eq}
 use Rattle.std.proofs.lemmas.Bool.{cases_lt, false_from_ne_true}
@@ -10,7 +10,8 @@ use Rattle.std.proofs.lemmas.List.Quantifiers.{position-Some}
 use Rattle.std.proofs.lemmas.List.Sums.{position_or_len_is}
 use Rattle.std.proofs.lemmas.Option.{none-some, same_Some, slice_get-map, slice_get_within, get_or_from_slice_get}
 use Rattle.std.proofs.lemmas.Slice.Eq.{bytes_eq-Decides}
-use Rattle.pap_tree.specs.Declarations.{Declaration}
+use Rattle.pap_tree.specs.Declarations.{Declaration, declaration_of}
+use Rattle.pap_tree.specs.declared.declaration.Declared.{Declared}
 use Rattle.pap_tree.specs.Flowchart.{Flowchart}
 use Rattle.pap_types.specs.Checks.{IsWellTyped}
 use Rattle.pap_types.specs.Scopes.{names_of, number_of, variables_of}
@@ -149,3 +150,9 @@ other_number f x number n inputs m outputs (Some k) well is there count behind l
     let above = h.0 in
     let at = h.1 in
     own_internal f x number n k well is there (omega (arith, above, at, count, behind, left, others))
+
+-- ---- how many there are
+
+-- as many declarations as a plan's text has
+pub declarations_counted : (ds : Vec Declared Global) → vec_len ds ≡ length (map declaration_of ds.items)
+declarations_counted ds = omega (arith, ds.ok.0, length-map ds.items declaration_of)
