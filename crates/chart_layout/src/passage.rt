@@ -7,6 +7,8 @@ use crate::leads::{Exit, Way};
 pub struct Passage {
     /// The run executed it.
     pub is_run: bool,
+    /// The run went on behind it.
+    pub goes_on: bool,
     /// Its test held at least once.
     pub yes: bool,
     /// Its test didn't hold at least once.
@@ -20,6 +22,7 @@ pub struct Passage {
 /// What is known of a statement that no run executed.
 const NO_PASSAGE: Passage = Passage {
     is_run: false,
+    goes_on: false,
     yes: false,
     no: false,
     lines: 0,
@@ -48,11 +51,11 @@ pub(crate) fn is_taken(passages: &[Passage], exits: &[Exit]) -> bool {
 fn is_left(passages: &[Passage], exit: &Exit) -> bool {
     match exit {
         Exit::Start => passage_at(passages, 0).is_run,
-        Exit::Below(number) => passage_at(passages, *number).is_run,
+        Exit::Below(number) => passage_at(passages, *number).goes_on,
         Exit::Way(Way { test, word }) => match word {
             Word::Yes => passage_at(passages, *test).yes,
             Word::No => passage_at(passages, *test).no,
-            Word::YesOrNo => passage_at(passages, *test).is_run,
+            Word::YesOrNo => passage_at(passages, *test).goes_on,
         },
     }
 }

@@ -138,7 +138,10 @@ marked_templates =
     codes "</ul><p><a href=\"#declarations\">Declarations</a></p></nav><main class=\"ranged\">\n" ∷
     codes "<p class=\"key\">Each statement says how many runs came there, and each way of a test how many took it. What no run came to is red and dashed, and says never or missed. What no run within the ranges of the inputs can come to is grey and dashed, and says unreachable.</p>\n" ∷
     codes "<p class=\"key\">Under each assignment stands the range of what it puts: from the least to the greatest value that a run within the ranges of the inputs can give it. What no such run comes to is grey and dashed, and says so.</p>\n" ∷
+    codes "<p class=\"key\">Under each assignment stands the range of what it puts, as far as the walk over the ranges went before it stopped. The statement that may fail is red, and says why and which ranges its operands have. Dashed ways were not walked: whether a run takes them is not known.</p>\n" ∷
+    codes "<p class=\"blocked\">The walk over the ranges stops at <a href=\"#%:%\">%:%</a>. What stands behind it was not walked.</p>\n" ∷
     codes "<g id=\"%:%\" role=\"group\" aria-label=\"%:%%: %; %\" class=\"s\">" ∷
+    codes "<g id=\"%:%\" role=\"group\" aria-label=\"%:%%: %; %\" class=\"s bad\">" ∷
     codes "<g id=\"%:%\" role=\"group\" aria-label=\"%:%%: %; %\" class=\"s missed\">" ∷
     codes "<g id=\"%:%\" role=\"group\" aria-label=\"%:%%: %; %\" class=\"s dead\">" ∷
     codes "<rect class=\"b missed\" x=\"%\" y=\"%\" width=\"%\" height=\"%\"/>" ∷

@@ -8,7 +8,7 @@ use Rattle.flowchart_markup.specs.Escapes.{escaped}
 use Rattle.flowchart_methods.specs.declared.conditions.Condition.{Condition}
 use Rattle.flowchart_methods.specs.Conditions.{conditions_of, condition_at}
 use Rattle.flowchart_methods.specs.declared.kind.MarkKind.{MarkKind}
-use Rattle.flowchart_methods.specs.declared.kind.MarkKind.TheVariants.{Nothing, Run, Told, Came, Missed, Dead}
+use Rattle.flowchart_methods.specs.declared.kind.MarkKind.TheVariants.{Nothing, Run, Told, Came, Missed, Dead, Failing}
 use Rattle.flowchart_methods.specs.Marks.{Marked, mark_at, marks_at, mark_words}
 use Rattle.flowchart_methods.specs.Sites.{NamedStatement, number_in}
 
@@ -31,6 +31,7 @@ kind_class Told = codes "\" class=\"s\">"
 kind_class Came = codes "\" class=\"s\">"
 kind_class Missed = codes "\" class=\"s missed\">"
 kind_class Dead = codes "\" class=\"s dead\">"
+kind_class Failing = codes "\" class=\"s bad\">"
 
 -- the class in which a statement is shown of which nothing is known: the refused one is marked
 abbrev pub bare_class : Bool → List ℕ

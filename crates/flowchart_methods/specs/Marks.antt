@@ -3,7 +3,7 @@ use Rattle.std.specs.Prelude.{ℕ, ◌==◌, Bool, true, false, if◌then◌else
 use Rattle.std.specs.List.{flat_map}
 use Rattle.std.specs.Fmt.{decimal as number}
 use Rattle.flowchart_methods.specs.declared.kind.MarkKind.{MarkKind}
-use Rattle.flowchart_methods.specs.declared.kind.MarkKind.TheVariants.{Nothing, Run, Told, Came, Missed, Dead}
+use Rattle.flowchart_methods.specs.declared.kind.MarkKind.TheVariants.{Nothing, Run, Told, Came, Missed, Dead, Failing}
 use Rattle.flowchart_methods.specs.declared.kind.ExitKind.{ExitKind}
 use Rattle.flowchart_methods.specs.declared.kind.ExitKind.TheVariants as exits
 
@@ -93,6 +93,7 @@ kind_words Told false = None
 kind_words Came tells = Some (codes "covered")
 kind_words Missed tells = Some (codes "missed")
 kind_words Dead tells = Some (codes "dead")
+kind_words Failing tells = Some (codes "may fail")
 
 -- there are some
 abbrev pub has_some : List ℕ → Bool

@@ -17,6 +17,8 @@ pub enum MarkKind {
     Missed,
     /// No run within the ranges comes there.
     Dead,
+    /// The walk over the ranges stops there: a run within them may fail.
+    Failing,
 }
 
 /// What is known of an exit of a test.
@@ -32,6 +34,8 @@ pub enum ExitKind {
     Missed,
     /// No run within the ranges takes it.
     Dead,
+    /// The walk over the ranges did not take it before it stopped.
+    Unwalked,
 }
 
 impl MarkKind {
@@ -52,6 +56,7 @@ impl MarkKind {
             MarkKind::Came => Some("covered"),
             MarkKind::Missed => Some("missed"),
             MarkKind::Dead => Some("dead"),
+            MarkKind::Failing => Some("may fail"),
         }
     }
 }
@@ -70,7 +75,11 @@ impl ExitKind {
     {
         match self {
             ExitKind::Counted(count) => Some(count),
-            ExitKind::Open | ExitKind::Taken | ExitKind::Missed | ExitKind::Dead => None,
+            ExitKind::Open
+            | ExitKind::Taken
+            | ExitKind::Missed
+            | ExitKind::Dead
+            | ExitKind::Unwalked => None,
         }
     }
 

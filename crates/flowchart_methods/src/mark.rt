@@ -97,14 +97,28 @@ impl Mark {
             | MarkKind::Came
             | MarkKind::Missed
             | MarkKind::Dead => ExitKind::Open,
+            MarkKind::Failing => ExitKind::Unwalked,
         }
     }
 
     /// Whether runs come to the statement.
     pub(crate) fn is_visited(&self) -> bool {
         match self.kind {
-            MarkKind::Run(_) | MarkKind::Told | MarkKind::Came => true,
+            MarkKind::Run(_) | MarkKind::Told | MarkKind::Came | MarkKind::Failing => true,
             MarkKind::Nothing | MarkKind::Missed | MarkKind::Dead => false,
+        }
+    }
+
+    /// Whether runs go on behind the statement.
+    fn is_passed(&self) -> bool {
+        match self.kind {
+            MarkKind::Failing => false,
+            MarkKind::Nothing
+            | MarkKind::Run(_)
+            | MarkKind::Told
+            | MarkKind::Came
+            | MarkKind::Missed
+            | MarkKind::Dead => self.is_visited(),
         }
     }
 
@@ -116,6 +130,7 @@ impl Mark {
         }
         Passage {
             is_run: self.is_visited(),
+            goes_on: self.is_passed(),
             yes: is_way(self.kind, self.yes),
             no: is_way(self.kind, self.no),
             lines: self.lines.len(),
@@ -170,7 +185,7 @@ fn is_way(kind: MarkKind, exit: ExitKind) -> bool {
     match exit {
         ExitKind::Taken | ExitKind::Counted(_) => true,
         ExitKind::Open => matches!(kind, MarkKind::Told | MarkKind::Came),
-        ExitKind::Missed | ExitKind::Dead => false,
+        ExitKind::Missed | ExitKind::Dead | ExitKind::Unwalked => false,
     }
 }
 

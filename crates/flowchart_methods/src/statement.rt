@@ -35,6 +35,10 @@ const MISSED_START: &str =
 /// That of one to which no run within the ranges comes.
 const DEAD_START: &str = "<g id=\"%:%\" role=\"group\" aria-label=\"%:%%: %; %\" class=\"s dead\">";
 
+/// That of the one at which the walk over the ranges stops.
+const FAILING_START: &str =
+    "<g id=\"%:%\" role=\"group\" aria-label=\"%:%%: %; %\" class=\"s bad\">";
+
 /// The method that is drawn.
 #[derive(Clone, Copy)]
 pub(crate) struct Subject<'a> {
@@ -125,7 +129,7 @@ fn box_symbol(
     let mut page = Page::new(alloc);
     let fills = [px(x), px(y), px(width), px(height)];
     match first_kind(subject, row) {
-        MarkKind::Nothing | MarkKind::Told | MarkKind::Came => page.put(
+        MarkKind::Nothing | MarkKind::Told | MarkKind::Came | MarkKind::Failing => page.put(
             "<rect class=\"b\" x=\"%\" y=\"%\" width=\"%\" height=\"%\"/>",
             &fills,
         )?,
@@ -251,6 +255,10 @@ fn put_hexagon(page: &mut Page, kind: MarkKind, numbers: &[Fill<'_>]) -> Result<
             "<path class=\"d dead\" d=\"M% %l% -%h%l% %l-% %h-%z\"/>",
             numbers,
         ),
+        MarkKind::Failing => page.put(
+            "<path class=\"d bad\" d=\"M% %l% -%h%l% %l-% %h-%z\"/>",
+            numbers,
+        ),
     }
 }
 
@@ -366,6 +374,7 @@ fn put_known<'a>(
         MarkKind::Came => page.put(KNOWN_START, &fills),
         MarkKind::Missed => page.put(MISSED_START, &fills),
         MarkKind::Dead => page.put(DEAD_START, &fills),
+        MarkKind::Failing => page.put(FAILING_START, &fills),
     }
 }
 

@@ -142,7 +142,9 @@ fn put_word_behind(
 ) -> Result<(), AllocError> {
     let fills = [px(x), px(y), Fill::Text(word.as_bytes())];
     match exit {
-        ExitKind::Open => page.put("<text class=\"y\" x=\"%\" y=\"%\">%</text>", &fills),
+        ExitKind::Open | ExitKind::Unwalked => {
+            page.put("<text class=\"y\" x=\"%\" y=\"%\">%</text>", &fills)
+        }
         ExitKind::Taken => page.put("<text class=\"y ran\" x=\"%\" y=\"%\">%</text>", &fills),
         ExitKind::Counted(count) => put_counted(page, x, y, word, Anchor::Begins, count),
         ExitKind::Missed => page.put(
@@ -172,7 +174,9 @@ fn put_word_before(
         px(y),
     ];
     match exit {
-        ExitKind::Open => page.put("<text class=\"e\" x=\"%\" y=\"%\">%</text>", &fills),
+        ExitKind::Open | ExitKind::Unwalked => {
+            page.put("<text class=\"e\" x=\"%\" y=\"%\">%</text>", &fills)
+        }
         ExitKind::Taken => page.put("<text class=\"e ran\" x=\"%\" y=\"%\">%</text>", &fills),
         ExitKind::Counted(count) => put_counted(page, x, y, word, Anchor::Ends, count),
         ExitKind::Missed => page.put(

@@ -1,7 +1,7 @@
 use Rattle.std.proofs.Common.{◌≡◌, ◌++◌, false, sym, ap, ◌∙◌}
 use Rattle.std.specs.Prelude.{Some}
 use Rattle.chart_layout.specs.Drawn.{drawn}
-use Rattle.flowchart_methods.specs.declared.kind.MarkKind.TheVariants.{Nothing, Run, Told, Came, Missed, Dead}
+use Rattle.flowchart_methods.specs.declared.kind.MarkKind.TheVariants.{Nothing, Run, Told, Came, Missed, Dead, Failing}
 use Rattle.flowchart_methods.specs.Captions.{placed_caption}
 use Rattle.flowchart_methods.proofs.TurnLemmas.{on_ok}
 use Rattle.flowchart_methods.proofs.statement.put_known.Goals as goal
@@ -95,3 +95,18 @@ returns-in-Dead c =
     ∙ ap (λ n. page ++ placed_caption name condition known Dead (drawn n false text)) c.from-number.ensures
     ∙ ap (λ w. page ++ placed_caption name w known Dead (drawn c.args.number false text)) c.as_bytes.ensures.value
     ∙ ap (λ k. page ++ placed_caption name c.args.condition.now known k (drawn c.args.number false text)) (sym c.in-Dead.is))
+
+pub returns-in-Failing : goal.returns-in-Failing
+returns-in-Failing c =
+    let page = c.args.page.now in
+    let name = c.args.name.now in
+    let text = c.args.text.now in
+    let known = Some c.args.words.now in
+    let condition = c.as_bytes.result.now in
+    let new = c.put-in-Failing.new.self in
+    on_ok c.put-in-Failing.result (new ≡ page ++ placed_caption name condition known Failing (drawn c.from-number.result false text))
+    (new ≡ page ++ placed_caption name c.args.condition.now known c.args.kind (drawn c.args.number false text)) c.put-in-Failing.ensures
+    (λ e. e
+    ∙ ap (λ n. page ++ placed_caption name condition known Failing (drawn n false text)) c.from-number.ensures
+    ∙ ap (λ w. page ++ placed_caption name w known Failing (drawn c.args.number false text)) c.as_bytes.ensures.value
+    ∙ ap (λ k. page ++ placed_caption name c.args.condition.now known k (drawn c.args.number false text)) (sym c.in-Failing.is))
