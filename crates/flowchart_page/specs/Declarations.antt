@@ -113,7 +113,7 @@ input_range_shown None name = []
 -- what is found, of an internal over the whole run
 abbrev pub range_shown : TableSource → Element → ℕ → List ℕ → List ℕ
 range_shown source Input index name = input_range_shown source.limits name
-range_shown source Output index name = output_text source.finding index
+range_shown source Output index name = output_text source.finding index name
 range_shown source Internal index name = internal_text source.internals index
 range_shown source _ index name = []
 

@@ -1,5 +1,5 @@
 -- The ranges of declared names as the table of declarations shows them.
-use Rattle.std.specs.Prelude.{ℕ, ◌==◌, if◌then◌else◌, unwrap_or, List, [], ◌++◌, codes, filter, slice_get}
+use Rattle.std.specs.Prelude.{ℕ, ◌==◌, Bool, if◌then◌else◌, unwrap_or, List, [], ◌++◌, codes, filter, slice_get}
 use Rattle.std.specs.Fmt.{decimal}
 use Rattle.std.specs.List.{flat_map}
 use Rattle.std.specs.Option.{option_map_or}
@@ -13,7 +13,10 @@ use Rattle.limits_file.specs.declared.limits.Carry.TheVariants.{Sum, Last, Count
 use Rattle.limits_file.specs.declared.limits.InputLimit.{InputLimit}
 use Rattle.limits_file.specs.declared.limits.Limits.{Limits}
 use Rattle.limits_file.specs.Limits.{limit_named}
-use Rattle.flowchart_page.specs.Findings.{Finding, accepted}
+use Rattle.interval_analysis.specs.declared.fault.RangeFault.TheVariants as walks
+use Rattle.pap_plan.specs.declared.refusal.PlanRefusal.{PlanRefusal}
+use Rattle.pap_plan.specs.declared.refusal.PlanRefusal.TheVariants as refusals
+use Rattle.flowchart_page.specs.Findings.{Finding, accepted, refused}
 
 -- how many digits the values of an input have behind the point at most, where they may have some
 abbrev pub places_text : ℕ → List ℕ
@@ -47,10 +50,20 @@ abbrev pub range_text : Interval → List ℕ
 range_text range =
     plain_text (decimals.decimal range.lo range.s_hi) ++ (codes " to " ++ plain_text (decimals.decimal range.hi range.s_hi))
 
--- the range of the output of a number that was found: that of an accepted plan
-abbrev pub output_text : Finding → ℕ → List ℕ
-output_text (accepted m) number = option_map_or (λ output. range_text output.range) (slice_get m.outputs number) []
-output_text _ number = []
+-- that the values of an output may be too long or too great, where they may
+abbrev pub wide_text : Bool → List ℕ
+wide_text is_wide = if is_wide then codes "may have more than 12 places, or exceed 10^20" else []
+
+-- what a refusal says of the values of an output of a name, where the plan is refused for them
+abbrev pub refused_output_text : PlanRefusal → List ℕ → List ℕ
+refused_output_text (refusals.Range (walks.Output output)) name = wide_text (bytes_eq output name)
+refused_output_text _ name = []
+
+-- the range of the output of a number and a name that was found: that of an accepted plan
+abbrev pub output_text : Finding → ℕ → List ℕ → List ℕ
+output_text (accepted m) number name = option_map_or (λ output. range_text output.range) (slice_get m.outputs number) []
+output_text (refused r) number name = refused_output_text r name
+output_text _ number name = []
 
 -- the range of the internal of a number over the whole run, where one is known
 abbrev pub internal_text : List (List ℕ) → ℕ → List ℕ

@@ -1,5 +1,6 @@
 -- What a page shows of a run, or of all runs.
-use Rattle.std.specs.Prelude.{ℕ, List, [], ◌∷◌, map, Option, Some, None}
+use Rattle.std.specs.Prelude.{ℕ, List, [], ◌∷◌, ◌++◌, codes, map, Option, Some, None}
+use Rattle.std.specs.Fmt.{decimal}
 use Rattle.flowchart_methods.specs.Marks.{Marked}
 use Rattle.flowchart_page.specs.declared.chart.RunShown.{RunShown}
 
@@ -16,6 +17,19 @@ run_parts r = record { part = r.part.now; marks = r.marks.now; internals = map (
 -- what is known of all runs: no part of the page tells of one
 abbrev pub all_runs : List (List Marked) → List (List ℕ) → RunParts
 all_runs marks internals = record { part = []; marks = marks; internals = internals }
+
+-- the sentence that says at which statement the walk over the ranges stops, by its method and its number there
+abbrev pub stop_text : List ℕ → ℕ → List ℕ
+stop_text method number =
+    codes "<p class=\"blocked\">The walk over the ranges stops at <a href=\"#"
+    ++ (method ++ (codes ":" ++ (decimal number
+    ++ (codes "\">"
+    ++ (method ++ (codes ":" ++ (decimal number
+    ++ codes "</a>. What stands behind it was not walked.</p>\n")))))))
+
+-- what is known of all runs where the walk over the ranges stops at a statement: the ranges of internals aren't known then
+abbrev pub stopped_runs : List ℕ × ℕ → List (List Marked) → RunParts
+stopped_runs stop marks = record { part = stop_text stop.0 stop.1; marks = marks; internals = [] }
 
 -- the part of the page, where there is a run
 abbrev pub run_texts : Option RunParts → List (List ℕ)

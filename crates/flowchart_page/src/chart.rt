@@ -10,7 +10,7 @@ ghost use Rattle.flowchart_methods.specs.declared.site.Site.TheVariants.{Nowhere
 ghost use Rattle.flowchart_page.specs.Findings.{IsFound};
 ghost use Rattle.flowchart_page.specs.Judged.{finding_of, words_of, HasLine};
 ghost use Rattle.flowchart_page.specs.Pages.{IsWholePage, AreLimits, IsPage, IsRunPage};
-ghost use Rattle.flowchart_page.specs.Runs.{all_runs, run_parts, run_texts, run_marks, run_internals};
+ghost use Rattle.flowchart_page.specs.Runs.{all_runs, stop_text, stopped_runs, run_parts, run_texts, run_marks, run_internals};
 ghost use Rattle.flowchart_page.specs.private.PageViews.{IsAround, ShowsTree, ShowsRead, HasTable, IsBehind, ShowsVerdict};
 ghost use Rattle.flowchart_page.specs.private.SourceViews.{table_source};
 ghost use Rattle.flowchart_page.specs.private.VerdictViews.{verdict_text};
@@ -27,6 +27,7 @@ use flowchart_methods::{
 };
 use limits_file::{Limits, LimitsFault, read_limits};
 use pap_reader::{Elements, ReadFault, read_elements};
+use pap_tree::Name;
 use plain_words::TextFile;
 use plan_notes::{Element, Notes, read_notes};
 use std::alloc::{AllocError, Global};
@@ -123,7 +124,6 @@ pub fn draw_judged(
 
 /// The page of a plan's bytes and a range file's, with what is known of all runs: in the drawings, and of the internals in the table of
 /// declarations, a text for each in declared order. Takes time as `draw_chart`.
-#[tactic(auto, using(crate::proofs::PageLemmas::reworded))]
 pub fn draw_ranged(
     alloc: Global,
     plan: TextFile<'_>,
@@ -140,7 +140,6 @@ pub fn draw_ranged(
         plan.entry.bytes.now (Some limits.entry.bytes.now)
         (option_map (λ words. string_bytes words) chart.reason) chart.page.items) }
 {
-    let verdict = judge(alloc, plan, Some(limits))?;
     let part = Page::new(alloc);
     let shown = RunShown {
         part: &part,
@@ -148,6 +147,77 @@ pub fn draw_ranged(
         marking: Marking::Ranges,
         internals,
     };
+    draw_shown(alloc, plan, limits, shown)
+}
+
+/// The page of a plan's bytes and a range file's, with what the walk over the ranges found before it stopped at a statement: in the
+/// drawings, and in a sentence above them. `stop` is the statement, by its method and its number there. Takes time as `draw_chart`.
+pub fn draw_stopped(
+    alloc: Global,
+    plan: TextFile<'_>,
+    limits: TextFile<'_>,
+    marks: &[MethodMarks],
+    stop: (Name, u32),
+) -> Result<Chart, AllocError>
+    // Why the plan is refused, where it is.
+    ensures judged { IfOk result (λ chart. IsJudged (named_text plan.entry)
+        (Some (named_text limits.entry)) (option_map (λ words. string_bytes words) chart.reason)) }
+    // What the page says of the plan, and that its drawings have these marks and a sentence says where the walk stops.
+    ensures page { IfOk result (λ chart. IsRunPage (Some (stopped_runs stop marks.now))
+        plan.entry.bytes.now (Some limits.entry.bytes.now)
+        (option_map (λ words. string_bytes words) chart.reason) chart.page.items) }
+{
+    let (method, number) = stop;
+    let part = stop_part(alloc, method, number)?;
+    let shown = RunShown {
+        part: &part,
+        marks,
+        marking: Marking::Stopped,
+        internals: &[],
+    };
+    draw_shown(alloc, plan, limits, shown)
+}
+
+/// At which statement the walk over the ranges stops, by its method and its number there.
+fn stop_part(alloc: Global, method: Name, number: u32) -> Result<Page, AllocError>
+    ensures { IfOk result (λ part. part ≡ stop_text method number) }
+{
+    let mut part = Page::new(alloc);
+    let place = u64::from(number);
+    put_stop(&mut part, method, place)?;
+    Ok(part)
+}
+
+/// Appends at which statement the walk stops.
+fn put_stop(part: &mut Page, method: Name, number: u64) -> Result<(), AllocError>
+    ensures { OnOk result (part.new ≡ part.old ++ stop_text method number) }
+{
+    part.put(
+        "<p class=\"blocked\">The walk over the ranges stops at <a href=\"#%:%\">%:%</a>. What stands behind it was not walked.</p>\n",
+        &[
+            Fill::OfName(method),
+            Fill::Number(number),
+            Fill::OfName(method),
+            Fill::Number(number),
+        ],
+    )
+}
+
+/// The page of a plan's bytes and a range file's, with what is shown of its runs.
+#[tactic(auto, using(crate::proofs::PageLemmas::reworded))]
+fn draw_shown(
+    alloc: Global,
+    plan: TextFile<'_>,
+    limits: TextFile<'_>,
+    shown: RunShown<'_>,
+) -> Result<Chart, AllocError>
+    ensures judged { IfOk result (λ chart. IsJudged (named_text plan.entry)
+        (Some (named_text limits.entry)) (option_map (λ words. string_bytes words) chart.reason)) }
+    ensures page { IfOk result (λ chart. IsRunPage (Some (run_parts shown.entry))
+        plan.entry.bytes.now (Some limits.entry.bytes.now)
+        (option_map (λ words. string_bytes words) chart.reason) chart.page.items) }
+{
+    let verdict = judge(alloc, plan, Some(limits))?;
     let page = draw_judged(alloc, plan, Some(limits), &verdict, Some(shown))?;
     Ok(Chart {
         page,

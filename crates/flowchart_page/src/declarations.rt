@@ -4,7 +4,7 @@ ghost use Rattle.pap_tree.specs.Declarations.{declared_of};
 ghost use Rattle.pap_reader.specs.Attributes.{type_word};
 ghost use Rattle.pap_reader.specs.Trees.{raw_declaration_of, tree_of};
 ghost use Rattle.flowchart_page.specs.Declarations.{value_cells, table_item_text, table_items_text, comments_above, items_cell, literal_cells, row_start, is_named, range_shown, group_title, group_heading};
-ghost use Rattle.flowchart_page.specs.Ranges.{output_text};
+ghost use Rattle.flowchart_page.specs.Ranges.{output_text, refused_output_text, wide_text};
 ghost use Rattle.flowchart_page.specs.private.TableViews.{source_of, AddsCells, AddsRow, AddsNamed, AddsRows, AddsGroup, AddsTable};
 ghost use Rattle.flowchart_page.specs.Judged.{finding_of};
 ghost use Rattle.flowchart_methods.specs.Turns.{AddsInTurn};
@@ -13,8 +13,10 @@ use crate::ranges::{input_range, internal_range, output_range};
 use crate::verdict::Verdict;
 use flowchart_markup::{Fill, Page};
 use flowchart_methods::{Site, write_comments, write_paragraphs};
+use interval_analysis::RangeFault;
 use limits_file::Limits;
 use pap_expr::{ExprFault, parse_constant};
+use pap_plan::PlanRefusal;
 use pap_reader::{Elements, RawDeclared};
 use pap_tree::{Kind, Literal, Name};
 use plan_notes::{Element, Notes};
@@ -318,22 +320,54 @@ fn range_of(
 {
     match (element, declarations.limits) {
         (Element::Input, Some(limits)) => Ok(input_range(alloc, limits, name)?.into_bytes()),
-        (Element::Output, _) => Ok(found_range(alloc, declarations.verdict, number)?.into_bytes()),
+        (Element::Output, _) => {
+            Ok(found_range(alloc, declarations.verdict, number, name)?.into_bytes())
+        }
         (Element::Internal, _) => internal_range(alloc, declarations.internals, number),
         _ => Ok(Vec::new(alloc)),
     }
 }
 
-/// The range of the output of a number, where the plan is accepted.
-fn found_range(alloc: Global, verdict: &Verdict, number: usize) -> Result<String, AllocError>
-    ensures { IfOk result (λ text. string_bytes text ≡ output_text (finding_of verdict.now) number) }
+/// The range of the output of a number and a name, where the plan is accepted, or that the plan is refused for it.
+fn found_range(
+    alloc: Global,
+    verdict: &Verdict,
+    number: usize,
+    name: &Name,
+) -> Result<String, AllocError>
+    ensures { IfOk result (λ text. string_bytes text
+        ≡ output_text (finding_of verdict.now) number name.now) }
 {
     match verdict {
         Verdict::Accepted(plan) => match plan.outputs().get(number) {
             Some(output) => output_range(alloc, output),
             None => Ok(String::new(alloc)),
         },
-        Verdict::InOrder | Verdict::Refused(_) => Ok(String::new(alloc)),
+        Verdict::InOrder => Ok(String::new(alloc)),
+        Verdict::Refused(reason) => refused_range(alloc, &reason.refusal, name),
+    }
+}
+
+/// What a refusal says of the values of the output of a name. Empty where the plan isn't refused for them.
+fn refused_range(alloc: Global, refusal: &PlanRefusal, name: &Name) -> Result<String, AllocError>
+    ensures { IfOk result (λ text. string_bytes text ≡ refused_output_text refusal.now name.now) }
+{
+    match refusal {
+        PlanRefusal::Range(RangeFault::Output { name: output }) => {
+            wide_text(alloc, *output == *name)
+        }
+        _ => Ok(String::new(alloc)),
+    }
+}
+
+/// That an output's values may be too long or too great, where they may.
+fn wide_text(alloc: Global, is_wide: bool) -> Result<String, AllocError>
+    ensures { IfOk result (λ text. string_bytes text ≡ wide_text is_wide) }
+{
+    if is_wide {
+        format!(in alloc; "may have more than 12 places, or exceed 10^20")
+    } else {
+        Ok(String::new(alloc))
     }
 }
 

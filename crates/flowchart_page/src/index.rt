@@ -16,6 +16,8 @@ pub enum Marking {
     Run,
     /// What is known of all runs within the ranges.
     Ranges,
+    /// What the walk over the ranges found before it stopped.
+    Stopped,
     /// How many runs came to each statement.
     Counts,
 }
@@ -23,6 +25,10 @@ pub enum Marking {
 /// What the marks of a page with ranges tell, below the key.
 const RANGES_KEY: &str =
     "<p class=\"key\">Under each assignment stands the range of what it puts: from the least to the greatest value that a run within the ranges of the inputs can give it. What no such run comes to is grey and dashed, and says so.</p>\n";
+
+/// What the marks of a page tell where the walk over the ranges stops, below the key.
+const STOPPED_KEY: &str =
+    "<p class=\"key\">Under each assignment stands the range of what it puts, as far as the walk over the ranges went before it stopped. The statement that may fail is red, and says why and which ranges its operands have. Dashed ways were not walked: whether a run takes them is not known.</p>\n";
 
 /// What the marks of a page with numbers of runs tell, below the key.
 const COUNTS_KEY: &str =
@@ -51,7 +57,7 @@ pub(crate) fn write_index(
             "</ul><p><a href=\"#declarations\">Declarations</a></p></nav><main class=\"traced\">\n",
             &[],
         ),
-        Marking::Ranges | Marking::Counts => page.put(
+        Marking::Ranges | Marking::Stopped | Marking::Counts => page.put(
             "</ul><p><a href=\"#declarations\">Declarations</a></p></nav><main class=\"ranged\">\n",
             &[],
         ),
@@ -84,6 +90,7 @@ pub(crate) fn write_key(page: &mut Page, marking: Marking) -> Result<(), AllocEr
     page.put(KEY, &[])?;
     match marking {
         Marking::Ranges => page.put(RANGES_KEY, &[]),
+        Marking::Stopped => page.put(STOPPED_KEY, &[]),
         Marking::Counts => page.put(COUNTS_KEY, &[]),
         Marking::Nothing | Marking::Run => Ok(()),
     }

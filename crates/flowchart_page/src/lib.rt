@@ -9,6 +9,6 @@ mod ranges;
 mod site;
 mod verdict;
 
-pub use chart::{Chart, RunShown, draw_chart, draw_judged, draw_ranged};
+pub use chart::{Chart, RunShown, draw_chart, draw_judged, draw_ranged, draw_stopped};
 pub use index::Marking;
 pub use verdict::{Reason, Verdict, judge};
