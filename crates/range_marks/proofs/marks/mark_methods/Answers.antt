@@ -1,12 +1,12 @@
 use Rattle.std.proofs.Common.{ap, ◌∙◌}
 use Rattle.pap_tree.specs.Flowchart.{flowchart_of}
-use Rattle.range_marks.specs.RangeMarks.{findings_in, statement_marks, method_marks}
+use Rattle.range_marks.specs.RangeMarks.{walk_findings, statement_marks, method_marks}
 use Rattle.range_marks.proofs.MarkLemmas.{one_method, all_methods}
 use Rattle.range_marks.proofs.marks.mark_methods.Goals as goal
 
 pub loop-number-preserved : goal.loop-number-preserved
 loop-number-preserved c =
-    let w = findings_in c.args.survey.now in
+    let w = walk_findings c.args.findings.now in
     let f = flowchart_of c.args.plan.now in
     let methods = c.args.methods.now in
     one_method w f methods c.loop-number.number c.index-methods-number.result c.in_ok-of_method.of_method c.loop-number.marks.items
@@ -16,7 +16,7 @@ loop-number-preserved c =
 
 pub returns : goal.returns
 returns c =
-    let w = findings_in c.args.survey.now in
+    let w = walk_findings c.args.findings.now in
     let f = flowchart_of c.args.plan.now in
     let methods = c.args.methods.now in
     all_methods w f methods c.loop-number.number c.loop-number.marks.items (method_marks w f 0 methods) c.loop-number-test.false

@@ -1,11 +1,11 @@
 use Rattle.std.proofs.Common.{ap, ◌∙◌}
-use Rattle.range_marks.specs.RangeMarks.{findings_in, range_mark, statement_marks}
+use Rattle.range_marks.specs.RangeMarks.{walk_findings, range_mark, statement_marks}
 use Rattle.range_marks.proofs.MarkLemmas.{one_statement, all_statements}
 use Rattle.range_marks.proofs.marks.mark_statements.Goals as goal
 
 pub loop-at-preserved : goal.loop-at-preserved
 loop-at-preserved c =
-    let w = findings_in c.args.survey.now in
+    let w = walk_findings c.args.findings.now in
     let name = c.args.name.now in
     let statements = c.args.statements.now in
     one_statement w name statements c.loop-at.at c.index-statements-at.result c.in_ok-mark.mark c.loop-at.marks.items
@@ -15,7 +15,7 @@ loop-at-preserved c =
 
 pub returns : goal.returns
 returns c =
-    let w = findings_in c.args.survey.now in
+    let w = walk_findings c.args.findings.now in
     let statements = c.args.statements.now in
     all_statements w c.args.name.now statements c.loop-at.at c.loop-at.marks.items (statement_marks w c.args.name.now 0 statements)
     c.loop-at-test.false c.loop-at.invariant
