@@ -35,7 +35,8 @@ use Rattle.plan_text.specs.Plans.{IsPlan}
 use Rattle.pap_plan.specs.AcceptanceClauses.{IsUnreadPlan}
 use Rattle.plan_answers.specs.Refusals.{HasDetail}
 use Rattle.plan_answers.specs.Answers.{Answer as Written, refusal}
-use Rattle.author_cli.specs.Answers.{Answer, IsChart, ChartsAccepted, ChartsRefused, IsChartWithin, IsRanges, file_of, Answers}
+use Rattle.interval_analysis.specs.declared.fault.RangeFault.{RangeFault}
+use Rattle.author_cli.specs.Answers.{Answer, IsChart, ChartsAccepted, ChartsWalk, ShowsRefusal, ChartsRefused, IsChartWithin, IsRanges, file_of, Answers}
 use Rattle.author_cli.proofs.TellsLemmas.{front, begins_ranges, begins_plan}
 
 module _ (n m : ℕ) (more_plan : 1048576 < n) (more_limits : 262144 < m) where
@@ -328,6 +329,28 @@ module _ (n m : ℕ) (more_plan : 1048576 < n) (more_limits : 262144 < m) where
       subst (λ l. ChartsAccepted plan (record { name = limits.name; bytes = l }) a) w.1
       (subst (λ p. ChartsAccepted (record { name = plan.name; bytes = p }) (front m limits) a) w.0 h)
 
+  walk_front : (fault : RangeFault) (plan limits : NamedText) (a : Answer) → ChartsWalk fault (front n plan) (front m limits) a
+      → ChartsWalk fault plan limits a
+  walk_front fault plan limits a h =
+      let file = h.bound.suited.named.file in
+      let plan_whole = whole 1048576 n plan.bytes more_plan file.ordered.typed.text.read.short in
+      let limits_whole = whole 262144 m limits.bytes more_limits file.file.1.short in
+      subst (λ l. ChartsWalk fault plan (record { name = limits.name; bytes = l }) a) limits_whole
+      (subst (λ p. ChartsWalk fault (record { name = plan.name; bytes = p }) (front m limits) a) plan_whole h)
+
+  shown_front : (r : PlanRefusal) (plan limits : NamedText) (a : Answer) → ShowsRefusal r (front n plan) (front m limits) a
+      → ShowsRefusal r plan limits a
+  shown_front (refusals.Range fault) plan limits a h = walk_front fault plan limits a h
+  shown_front (refusals.Read fault) plan limits a h = chart_front plan limits a h
+  shown_front (refusals.Expr spot fault) plan limits a h = chart_front plan limits a h
+  shown_front (refusals.Types fault) plan limits a h = chart_front plan limits a h
+  shown_front (refusals.Order fault) plan limits a h = chart_front plan limits a h
+  shown_front (refusals.Limits fault) plan limits a h = chart_front plan limits a h
+  shown_front (refusals.LimitName name) plan limits a h = chart_front plan limits a h
+  shown_front (refusals.LimitKind name) plan limits a h = chart_front plan limits a h
+  shown_front (refusals.Bind name) plan limits a h = chart_front plan limits a h
+  shown_front refusals.Memory plan limits a h = chart_front plan limits a h
+
   within_front : (plan limits : NamedText) (a : Answer) → IsChartWithin (front n plan) (front m limits) a
       → IsChartWithin plan limits a
   within_front plan limits a (inl h) = inl (charted_front plan limits a h)
@@ -335,7 +358,7 @@ module _ (n m : ℕ) (more_plan : 1048576 < n) (more_limits : 262144 < m) where
     h.0,
     record {
       refused = refused_front plan.bytes limits.bytes h.0 h.1.refused;
-      is_chart = chart_front plan limits a h.1.is_chart;
+      shows = shown_front h.0 plan limits a h.1.shows;
     },
   )
 

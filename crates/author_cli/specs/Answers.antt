@@ -1,5 +1,5 @@
 -- What is written on the bytes of a plan's file and of a range file.
-use Rattle.std.specs.Prelude.{◌≡◌, ◌≤◌, ◌⊎◌, ℕ, List, length, Option, Some, None, option_map}
+use Rattle.std.specs.Prelude.{◌≡◌, ◌≤◌, ◌⊎◌, ℕ, List, [], length, Option, Some, None, option_map}
 use Rattle.outside.specs.Told.{FileMap}
 use Rattle.payroll_records.specs.declared.values.NamedValue.{NamedValue}
 use Rattle.pap_reader.specs.declared.fault.ReadFault.{ReadFault}
@@ -15,12 +15,15 @@ use Rattle.plan_answers.specs.Refusals.{read_detail}
 use Rattle.range_draft.specs.Draft.{IsDraft}
 use Rattle.pap_tree.specs.Flowchart.{Flowchart}
 use Rattle.limits_file.specs.declared.limits.Limits.{Limits}
+use Rattle.interval_analysis.specs.declared.fault.RangeFault.{RangeFault}
 use Rattle.pap_plan.specs.declared.refusal.PlanRefusal.{PlanRefusal}
-use Rattle.pap_plan.specs.Acceptance.{Meaning, IsAccepted, IsRefused}
-use Rattle.range_marks.specs.RangeMarks.{WalkFindings, AreFindings, range_marks}
+use Rattle.pap_plan.specs.declared.refusal.PlanRefusal.TheVariants as refusals
+use Rattle.pap_plan.specs.Acceptance.{Meaning, HasBindings, IsAccepted, IsRefused}
+use Rattle.flowchart_methods.specs.Marks.{Marked}
+use Rattle.range_marks.specs.RangeMarks.{FailingAt, WalkFindings, AreFindings, AreRefusedFindings, range_marks}
 use Rattle.range_marks.specs.InternalRanges.{AreInternalRanges}
 use Rattle.flowchart_page.specs.Pages.{IsPage, IsRunPage}
-use Rattle.flowchart_page.specs.Runs.{all_runs}
+use Rattle.flowchart_page.specs.Runs.{RunParts, all_runs, stopped_runs}
 use Rattle.flowchart_page.specs.Verdicts.{files_with, IsJudged}
 use Rattle.author_cli.specs.Words.{Medium, NamedPlans, two_plans, with_limits, Form, chart, chart_within, ranges, compared, traced, drawn, example, linted, covered}
 use Rattle.author_cli.specs.Compared.{IsCompared, IsComparedPairs}
@@ -59,10 +62,39 @@ pub record ChartsAccepted (plan limits : NamedText) (answer : Answer) : Type 0 w
   pub accepted : IsAccepted plan.bytes limits.bytes meaning
   pub shows : ShowsRanges plan limits meaning.flowchart meaning.limits answer
 
--- the plan is refused for this, and its page has no marks of ranges
+-- what the page of a plan whose walk is refused shows of all runs: these marks, and at which statement the walk stops, where it does at
+-- one
+abbrev pub refused_runs : Option FailingAt → List (List Marked) → RunParts
+refused_runs (Some at) marks = stopped_runs at.place marks
+refused_runs None marks = all_runs marks []
+
+-- the walk over the ranges of a plan of this flowchart and these limits is refused for this, and the drawings of its page have the marks
+-- of what the walk found up to where it stops
+pub record ShowsRefused (plan limits : NamedText) (f : Flowchart) (l : Limits) (fault : RangeFault) (answer : Answer)
+    : Type 0 where
+  pub findings : WalkFindings
+  pub are_findings : AreRefusedFindings f l fault findings
+  pub page :
+      IsRunPage (Some (refused_runs findings.failing (range_marks f findings))) plan.bytes (Some limits.bytes) answer.reason
+      answer.text
+  pub judged : IsJudged plan (Some limits) answer.reason
+
+-- a plan's walk is refused for this, and its page shows what that found
+pub record ChartsWalk (fault : RangeFault) (plan limits : NamedText) (answer : Answer) : Type 0 where
+  pub flowchart : Flowchart
+  pub ranges : Limits
+  pub bound : HasBindings plan.bytes limits.bytes flowchart ranges
+  pub shows : ShowsRefused plan limits flowchart ranges fault answer
+
+-- the page of a plan that is refused for this: with what the walk over its ranges found, where it is that walk's refusal
+abbrev pub ShowsRefusal : PlanRefusal → NamedText → NamedText → Answer → Type 0
+ShowsRefusal (refusals.Range fault) plan limits answer = ChartsWalk fault plan limits answer
+ShowsRefusal r plan limits answer = IsChart plan (Some limits) answer
+
+-- the plan is refused for this, and its page shows that
 pub record ChartsRefused (r : PlanRefusal) (plan limits : NamedText) (answer : Answer) : Type 0 where
   pub refused : IsRefused plan.bytes limits.bytes r
-  pub is_chart : IsChart plan (Some limits) answer
+  pub shows : ShowsRefusal r plan limits answer
 
 -- the page of a plan with a range file
 abbrev pub IsChartWithin : (plan limits : NamedText) → Answer → Type 0
