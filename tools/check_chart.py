@@ -10,9 +10,9 @@ way of the nearest test it stands, and the characters of its lines; each link le
 is no script, and nothing that is fetched; there is one verdict, and no element, attribute or comment that could hide it; what the
 verdict of a refused plan links to is marked, and of another nothing is. Pages that are changed so that a word, a line, a caption or
 the verdict is wrong have to be refused. The page of a run says what the text of the run does (`chart_run.py`); so do the page of a comparison
-(`chart_compare.py`) and that of what a table covers (`chart_cover.py`). What the page of an accepted flowchart says of all runs holds of its runs (`chart_ranges.py`). Of a range
-file that is begun for a plan of random inputs: the plan is accepted with it, and
-the page shows the range of each name."""
+(`chart_compare.py`) and that of what a table covers (`chart_cover.py`). What the page of an accepted flowchart says of all runs holds of
+its runs (`chart_ranges.py`); that of one whose walk over the ranges stops shows where, and what is known before (`chart_stopped.py`). Of a
+range file that is begun for a plan of random inputs: the plan is accepted with it, and the page shows the range of each name."""
 import os
 import random
 import re
@@ -25,6 +25,7 @@ import chart_compare
 import chart_cover
 import chart_ranges
 import chart_run
+import chart_stopped
 import chart_table
 import chart_walk
 
@@ -411,22 +412,25 @@ def main():
         refused, changed = check_changed_pages(binary, folder)
     run_faults, runs, run_refused, run_changed = chart_run.check_runs(binary, max(2, count // 6), count)
     range_faults, ranged, dead, range_refused, range_changed = chart_ranges.check_ranges(binary, max(2, count // 3), count)
+    stop_faults, stopped, stop_refused, stop_changed = chart_stopped.check_stopped(binary, max(2, count // 6), count)
     plans = [Plan(rng).text() for _ in range(count)]
     other_faults, others, other_refused, other_changed = chart_compare.check_comparisons(binary, plans, count)
     cover_faults, covers, cover_refused, cover_changed = chart_cover.check_covers(binary, max(2, count // 6), count)
-    for fault in run_faults[:10] + range_faults[:10] + other_faults[:10] + cover_faults[:10]:
+    for fault in run_faults[:10] + range_faults[:10] + stop_faults[:10] + other_faults[:10] + cover_faults[:10]:
         print(fault)
     print("%d pages, %d with faults, %d lines followed, %d parts of cut drawings, %d of %d changed pages refused"
           % (count, failed, lines, parts, refused, changed))
     print("%d pages of runs, %d faults, %d of %d changed pages refused" % (runs, len(run_faults), run_refused, run_changed))
     print("%d pages with ranges, %d dead statements, %d faults, %d of %d changed pages refused"
           % (ranged, dead, len(range_faults), range_refused, range_changed))
+    print("%d pages where the walk stops, %d faults, %d of %d changed pages refused"
+          % (stopped, len(stop_faults), stop_refused, stop_changed))
     print("%d pages of comparisons, %d faults, %d of %d changed pages refused" % (others, len(other_faults), other_refused, other_changed))
     print("%d pages of tables, %d faults, %d of %d changed pages refused" % (covers, len(cover_faults), cover_refused, cover_changed))
-    tried_nothing = 0 in (count, runs, ranged, dead, others, covers)
-    let_through = (refused < changed or run_refused < run_changed or range_refused < range_changed or other_refused < other_changed
-                   or cover_refused < cover_changed)
-    any_faults = failed or run_faults or range_faults or other_faults or cover_faults
+    tried_nothing = 0 in (count, runs, ranged, dead, stopped, stop_changed, others, covers)
+    let_through = (refused < changed or run_refused < run_changed or range_refused < range_changed or stop_refused < stop_changed
+                   or other_refused < other_changed or cover_refused < cover_changed)
+    any_faults = failed or run_faults or range_faults or stop_faults or other_faults or cover_faults
     sys.exit(1 if any_faults or tried_nothing or let_through else 0)
 
 
