@@ -4,7 +4,7 @@ use Rattle.std.specs.Prelude.{ℕ, List, ◌++◌, codes}
 -- how a table of changes begins
 abbrev pub table_start : List ℕ
 table_start =
-    codes "<table class=\"diff\"><thead><tr><th scope=\"col\">What<th scope=\"col\">Old<th scope=\"col\">New</tr></thead><tbody>\n"
+    codes "<table class=\"diff\" aria-label=\"Old and new\"><thead><tr><th scope=\"col\">What<th scope=\"col\">Old<th scope=\"col\">New</tr></thead><tbody>\n"
 
 -- how it ends
 abbrev pub table_end : List ℕ

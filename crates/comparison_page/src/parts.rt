@@ -17,7 +17,7 @@ use std::alloc::{AllocError, Global};
 
 /// How a table of changes begins.
 pub(crate) const TABLE_START: &str =
-    "<table class=\"diff\"><thead><tr><th scope=\"col\">What<th scope=\"col\">Old<th scope=\"col\">New</tr></thead><tbody>\n";
+    "<table class=\"diff\" aria-label=\"Old and new\"><thead><tr><th scope=\"col\">What<th scope=\"col\">Old<th scope=\"col\">New</tr></thead><tbody>\n";
 
 /// How it ends.
 pub(crate) const TABLE_END: &str = "</tbody></table>\n";

@@ -81,7 +81,7 @@ abbrev pub table_templates : List (List ℕ)
 table_templates =
     codes "<section id=\"declarations\"><h2>Declarations</h2>\n" ∷
     codes "</section>\n" ∷
-    codes "<div class=\"scroll\"><table><thead><tr><th scope=\"col\">Name<th scope=\"col\">Type<th scope=\"col\">Default or value<th scope=\"col\">Range<th scope=\"col\">Comment</tr></thead>\n" ∷
+    codes "<div class=\"scroll\"><table aria-label=\"Declarations\"><thead><tr><th scope=\"col\">Name<th scope=\"col\">Type<th scope=\"col\">Default or value<th scope=\"col\">Range<th scope=\"col\">Comment</tr></thead>\n" ∷
     codes "</table></div>\n" ∷
     codes "<tbody><tr><th class=\"g\" colspan=\"5\" scope=\"rowgroup\">% <span>%</span></tr>\n" ∷
     codes "</tbody>\n" ∷

@@ -68,7 +68,7 @@ fn before_table(alloc: Global, notes: &Notes) -> Result<Page, AllocError> {
     write_paragraphs(&mut page, notes, Element::Interface, false)?;
     write_paragraphs(&mut page, notes, Element::Variables, false)?;
     page.put(
-        "<div class=\"scroll\"><table><thead><tr><th scope=\"col\">Name<th scope=\"col\">Type<th scope=\"col\">Default or value<th scope=\"col\">Range<th scope=\"col\">Comment</tr></thead>\n",
+        "<div class=\"scroll\"><table aria-label=\"Declarations\"><thead><tr><th scope=\"col\">Name<th scope=\"col\">Type<th scope=\"col\">Default or value<th scope=\"col\">Range<th scope=\"col\">Comment</tr></thead>\n",
         &[],
     )?;
     Ok(page)
