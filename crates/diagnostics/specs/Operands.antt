@@ -16,8 +16,8 @@ use Rattle.pap_plan.specs.declared.refusal.PlanRefusal.{PlanRefusal}
 use Rattle.pap_plan.specs.declared.refusal.PlanRefusal.TheVariants as refusals
 
 -- a range by its only value, or by its ends: is 5; lies from 0.00 to 9.99
-abbrev pub range_words : ValueRange → List ℕ
-range_words r =
+abbrev pub operand_words : ValueRange → List ℕ
+operand_words r =
     if is_eq (value_order r.least r.greatest) then codes "is " ++ plain_text r.least
     else codes "lies from " ++ (plain_text r.least ++ (codes " to " ++ plain_text r.greatest))
 
@@ -27,17 +27,17 @@ there_line words = codes "papcalc: there " ++ (words ++ 10 ∷ [])
 
 -- the only operand of a node: an index, or another
 abbrev pub one_words : RangeCause → ValueRange → List ℕ
-one_words Index a = codes "the index " ++ range_words a
-one_words _ a = codes "the operand " ++ range_words a
+one_words Index a = codes "the index " ++ operand_words a
+one_words _ a = codes "the operand " ++ operand_words a
 
 -- two operands, from the left
 abbrev pub both_words : ValueRange → ValueRange → List ℕ
 both_words a b =
-    codes "the first operand " ++ (range_words a ++ (codes ", and the second " ++ range_words b))
+    codes "the first operand " ++ (operand_words a ++ (codes ", and the second " ++ operand_words b))
 
 -- the two operands of a node: of one whose divisor may be zero the divisor alone
 abbrev pub two_words : RangeCause → ValueRange → ValueRange → List ℕ
-two_words Divisor a b = codes "the divisor " ++ range_words b
+two_words Divisor a b = codes "the divisor " ++ operand_words b
 two_words _ a b = both_words a b
 
 -- the line of the ranges that the operands of a node have, from the left; none where it has no operands

@@ -20,9 +20,9 @@ struct RangeWords {
 
 impl fmt::Display for RangeWords {
     ghost use Rattle.std.specs.Prelude.{Some};
-    ghost use Rattle.diagnostics.specs.Operands.{range_words};
+    ghost use Rattle.diagnostics.specs.Operands.{operand_words};
 
-    ghost output = { λ words. Some (range_words words.range) };
+    ghost output = { λ words. Some (operand_words words.range) };
 
     /// `is 5`, or `lies from 0.00 to 9.99`.
     fn fmt<W: fmt::Write>(&self, f: &mut fmt::Formatter<W>) -> fmt::Result {
