@@ -12,4 +12,5 @@ pub mod DecidedItemLemmas
 pub mod ValueListLemmas
 pub mod WordListLemmas
 pub mod EndLemmas
+pub mod WrongLemmas
 pub mod Laws

@@ -1,9 +1,9 @@
 //! Reading a saved book.
-ghost use Rattle.std.specs.Prelude.{◌≡◌, ◌+◌, ◌<◌, IfOk, IfErr, MatchBool};
+ghost use Rattle.std.specs.Prelude.{◌≡◌, ◌<◌, IfOk, IfErr, MatchBool};
 ghost use Rattle.payroll_records.specs.Tables.{Text};
 ghost use Rattle.saved_items.specs.Fronts.{AreFirstItems, items_in};
 ghost use Rattle.saved_items.specs.private.ItemDecisions.{Ends};
-ghost use Rattle.saved_items.specs.private.ItemViews.{EndsWith, IsComplete, front_in};
+ghost use Rattle.saved_items.specs.private.ItemViews.{EndsWith, IsComplete, StandsStill, front_in};
 ghost use Rattle.saved_items.specs.SavedBooks.{IsSavedText};
 ghost use Rattle.saved_items.specs.Texts.{SavedTextHasOneAnswer};
 ghost use Rattle.saved_items.specs.ItemFaults.{IsItemFaultOrMemory, saved_in};
@@ -11,19 +11,14 @@ ghost use Rattle.saved_items.specs.ItemFaults.{IsItemFaultOrMemory, saved_in};
 use crate::front::{Front, Stage};
 use crate::next::next_item;
 use crate::{ItemFault, SavedBook};
-use std::alloc::Global;
+use std::alloc::{AllocError, Global};
 
 /// The saved book that a text is, or the first item that isn't of its form.
 pub fn read_items<'a>(alloc: Global, bytes: &'a [u8]) -> Result<SavedBook<'a>, ItemFault<'a>>
     ensures ok { IfOk result (λ items. IsSavedText bytes.now (saved_in items)) }
     ensures err { IfErr result (IsItemFaultOrMemory bytes.now) }
 {
-    let mut front = Front::new(alloc);
-    let mut rest = bytes;
-    while let Some((item, left)) = next_item(alloc, &front, rest)? {
-        front.add(item)?;
-        rest = left;
-    }
+    let (front, rest) = read_front(alloc, bytes)?;
     if is_end(&front, rest) {
         return Ok(front.items);
     }
@@ -34,13 +29,29 @@ pub fn read_items<'a>(alloc: Global, bytes: &'a [u8]) -> Result<SavedBook<'a>, I
     })
 }
 
+/// The first items of a text, as many as are of their form one behind the other, and what follows them.
+pub(crate) fn read_front<'a>(
+    alloc: Global,
+    bytes: &'a [u8],
+) -> Result<(Front<'a>, &'a [u8]), AllocError>
+    ensures { IfOk result (λ read. StandsStill bytes.now read.0 read.1.now) }
+{
+    let mut front = Front::new(alloc);
+    let mut rest = bytes;
+    while let Some((item, left)) = next_item(alloc, &front, rest)? {
+        front.add(item)?;
+        rest = left;
+    }
+    Ok((front, rest))
+}
+
 /// A law, with nothing to run: a text says one thing.
 pub fn each_text_has_one_answer()
     ensures { (bytes : Text) → SavedTextHasOneAnswer bytes }
 {}
 
 /// Whether all runs were read, and the last line follows with nothing after it.
-fn is_end(front: &Front, rest: &[u8]) -> bool
+pub(crate) fn is_end(front: &Front, rest: &[u8]) -> bool
     ensures { MatchBool result (EndsWith front.now rest.now)
         (Ends (front_in front.now) rest.now → ⊥) }
 {
@@ -61,7 +72,7 @@ fn is_complete(front: &Front) -> bool
 }
 
 /// How many items were read.
-fn item_count(front: &Front) -> u32
+pub(crate) fn item_count(front: &Front) -> u32
     requires { AreFirstItems (front_in front.now) }
     ensures count { result ≡ items_in (front_in front.now) }
     ensures few { result < 100000 }

@@ -10,9 +10,9 @@ use book_file::BookFault;
 use correction_ledger::{FileRefusal, OwedRefusal};
 use month_trace::TraceRefusal;
 use payroll_records::{MOST_RECORDS, TableFault};
-use plain_words::{TextFile, position, table_words};
+use plain_words::{TextFile, one_line, table_words};
 use recalc_engine::EditRefusal;
-use saved_items::{ItemFault, read_items};
+use saved_items::{WrongItem, wrong_item};
 use script_lang::LineFault;
 use std::alloc::{AllocError, Global};
 
@@ -118,29 +118,62 @@ fn book_words(alloc: Global, file: TextFile<'_>, fault: &BookFault) -> Result<St
     }
 }
 
-/// What is wrong with an item of a saved book, with the line at which it would begin, and what helps. The text is read once more
-/// for that line.
+/// What is wrong with an item of a saved book, with the line in which it would begin, and what helps. The text is read once more
+/// for that.
 fn form_words(alloc: Global, file: TextFile<'_>, item: u32) -> Result<String, AllocError> {
     let name = file.name;
-    let at = match read_items(alloc, file.bytes) {
-        Err(ItemFault::Form { at, .. }) => at,
-        Err(ItemFault::Memory(error)) => return Err(error),
-        Ok(_) => return format!(in alloc; "{name}: item {item} is not of its form"),
-    };
-    let place = position(file.bytes, at);
-    if item == 1 {
+    match wrong_item(alloc, file.bytes)? {
+        Some(wrong) => {
+            let line = wrong.line;
+            let words = item_words(alloc, &wrong)?;
+            format!(in alloc; "{name}:{line}:1: {words}")
+        }
+        None => format!(in alloc; "{name}: item {item} is not of its form"),
+    }
+}
+
+/// What stands in place of an item of a saved book, and what has to stand there.
+fn item_words(alloc: Global, wrong: &WrongItem<'_>) -> Result<String, AllocError> {
+    let item = wrong.item;
+    if wrong.is_cut {
+        return cut_words(alloc, item, wrong.found);
+    }
+    let shown = line_words(alloc, wrong.found)?;
+    let needed = wrong.wanted.words();
+    format!(in alloc; "item {item}, {shown}, is not of its form; {needed}")
+}
+
+/// Where the text of a saved book was cut off.
+fn cut_words(alloc: Global, item: u32, found: &[u8]) -> Result<String, AllocError> {
+    if !found.is_empty() {
+        let shown = line_words(alloc, found)?;
         return format!(in alloc;
-            "{name}:{place}: item 1 is not of its form; a saved book begins with the line `papbook 1`, and an empty file is left where `save` wrote to the very file that its script opens"
+            "the text ends in item {item}, {shown}, before its line feed; it was cut off: write or copy the book again"
         );
     }
-    if at >= file.bytes.len() {
+    if item == 1 {
         return format!(in alloc;
-            "{name}:{place}: the text ends before item {item}; it was cut off: write or copy the book again"
+            "the file is empty; `save` leaves it so where it writes to the very file that its script opens: write to a new file"
         );
     }
     format!(in alloc;
-        "{name}:{place}: item {item} is not of its form, or the text ends within it; items are counted from 1: the first three lines, each plan with its texts, the line `runs N`, each run, and the last line with nothing after it"
+        "the text ends before item {item}; it was cut off: write or copy the book again"
     )
+}
+
+/// The most bytes that are shown of a line.
+const MOST_SHOWN: usize = 80;
+
+/// How a line begins, in plain words.
+fn line_words(alloc: Global, line: &[u8]) -> Result<String, AllocError> {
+    if line.is_empty() {
+        return format!(in alloc; "an empty line");
+    }
+    let front = &line[..line.len().min(MOST_SHOWN)];
+    let text = String::from_utf8_lossy(alloc, front)?;
+    let shown = one_line(alloc, &text)?;
+    let more = if front.len() < line.len() { ".." } else { "" };
+    format!(in alloc; "`{shown}{more}`")
 }
 
 /// The group, the name and the details of a line's refusal.

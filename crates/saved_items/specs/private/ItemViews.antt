@@ -74,6 +74,13 @@ HasNoTexts line bytes =
     (plan limits rest : Text) → length plan ≡ line.plan → length limits ≡ line.limits →
     bytes ≡ (plan ++ (limits ++ (10 ∷ []))) ++ rest → ⊥
 
+-- the bytes begin with the items that were read, and no item that is of its form follows them
+pub record StandsStill (bytes : Text) (f : Front) (rest : Text) : Type 0 where
+  pub sound : front.AreFirstItems (front_in f)
+  pub text : bytes ≡ front.front_text (front_in f) ++ rest
+  pub known : IsKnown f
+  pub still : items.Goes (front_in f) rest → ⊥
+
 -- all runs were read
 abbrev pub IsComplete : Front → Type 0
 IsComplete f = f.stage ≡ stage.Runs (length f.items.records.items)

@@ -1,39 +1,19 @@
-use Rattle.std.proofs.Common.{◌+◌, length, refl, sym, ap, arith, length-append}
-use Rattle.saved_items.specs.private.ItemViews.{front_in, item_in}
-use Rattle.saved_items.specs.private.ItemDecisions.{item_text}
+use Rattle.std.proofs.Common.{◌+◌, refl, sym, ap}
+use Rattle.saved_items.specs.private.ItemViews.{front_in}
 use Rattle.saved_items.specs.ItemFaults.{saved_in}
-use Rattle.saved_items.proofs.DecidedItemLemmas.{item_some}
-use Rattle.saved_items.proofs.TextLemmas.{goes_on, ends_text, stops_as}
+use Rattle.saved_items.proofs.TextLemmas.{ends_text, stops_as}
 use Rattle.saved_items.proofs.reading.read_items.Goals as goal
-
-pub loop-front-preserved : goal.loop-front-preserved
-loop-front-preserved c =
-    let h = c.loop-front.invariant in
-    let read = rw c.in-Some.is at c.in_ok-item.ensures in
-    let on = goes_on c.args.bytes.now (front_in c.loop-front.front)
-    (front_in c.add.new.self) c.loop-front.rest.now c.in-Some.left.now
-    (item_in c.in-Some.item) h.sound h.text read.0 read.1 c.in_ok-add.ensures.more in
-    record { sound = on.0; text = on.1; known = c.in_ok-add.ensures.known }
-
-pub loop-front-smaller : goal.loop-front-smaller
-loop-front-smaller c =
-    let read = rw c.in-Some.is at c.in_ok-item.ensures in
-    let long = ap length read.1 in
-    let some = item_some (item_in c.in-Some.item) in
-    omega (arith, long, some, length-append (item_text (item_in c.in-Some.item)) c.in-Some.left.now)
 
 pub returns-then-is_end-clause-ok : goal.returns-then-is_end-clause-ok
 returns-then-is_end-clause-ok c =
-    let h = c.loop-front.invariant in
+    let h = c.in_ok-front.ensures in
     let all = c.if-is_end.ensures.0 in
     let last = c.if-is_end.ensures.1 in
-    ends_text c.args.bytes.now (front_in c.loop-front.front) c.loop-front.rest.now h.sound h.text
-    (record { saved = saved_in c.loop-front.front.items; all = all; last = last })
+    ends_text c.args.bytes.now (front_in c.in_ok-front.front) c.in_ok-front.rest.now h.sound h.text
+    (record { saved = saved_in c.in_ok-front.front.items; all = all; last = last })
 
 pub returns-clause-err : goal.returns-clause-err
 returns-clause-err c =
-    let h = c.loop-front.invariant in
-    let none = rw c.in_default.is at c.in_ok-item.ensures in
-    stops_as c.args.bytes.now (front_in c.loop-front.front) c.loop-front.rest.now h.sound h.text
-    (λ g. none g.item g.rest g.fits g.text)
+    let h = c.in_ok-front.ensures in
+    stops_as c.args.bytes.now (front_in c.in_ok-front.front) c.in_ok-front.rest.now h.sound h.text h.still
     _ _ _ (ap (λ n. n + 1) c.item_count.ensures.count) refl (sym h.known.plans) c.if-is_end.ensures

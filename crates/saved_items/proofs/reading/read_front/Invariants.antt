@@ -1,7 +1,7 @@
 use Rattle.std.proofs.Common.{◌≡◌, ◌++◌, length}
 use Rattle.saved_items.specs.Fronts.{AreFirstItems, front_text}
 use Rattle.saved_items.specs.private.ItemViews.{IsKnown, front_in}
-use Rattle.saved_items.proofs.reading.read_items.Given as goal
+use Rattle.saved_items.proofs.reading.read_front.Given as goal
 
 abbrev pub invariant-loop-front : goal.invariant-loop-front
 invariant-loop-front l = record {
