@@ -9,4 +9,4 @@ returns c =
     tells_faults (files_of c.args.plan c.args.limits) c.args.refusal.now (drop 1 c.in_ok-faults.faults.items) c.behind_first.result.now
     lines (string_bytes c.in_ok-operands.operands) (string_bytes c.push_str.new.self)
     (c.behind_first.ensures ∙ ap (λ l. drop 1 l) c.deref.ensures.value) c.in_ok-faults.ensures c.in_ok-text.ensures c.in_ok-operands.ensures
-    (c.in_ok-push_str.ensures ∙ ap (λ w. lines ++ w) c.deref-2.ensures)
+    (c.in_ok-push_str.ensures.bytes ∙ ap (λ w. lines ++ w) c.deref-2.ensures)
