@@ -44,7 +44,7 @@ def trials():
     yield "trace", status == 0 and out.endswith(f"set M{METHODS - 1}:{IFS} K 8\nend\n")
     status, out, err = run("check", "refused.xml", "deep.toml")
     yield "a refusal", status == 1 and out.startswith(f"refused plan Divisor M{METHODS - 1}:{IFS}:2 ")
-    yield "its reason", "divisor may be zero" in err and err.count("\n") == 1
+    yield "its reason", "divisor may be zero" in err and err.endswith("\npapcalc: there the divisor lies from 0 to 9\n") and err.count("\n") == 2
 
 
 program = os.path.abspath(sys.argv[1])
