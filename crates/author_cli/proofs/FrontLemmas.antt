@@ -338,18 +338,18 @@ module _ (n m : ℕ) (more_plan : 1048576 < n) (more_limits : 262144 < m) where
       subst (λ l. ChartsWalk fault plan (record { name = limits.name; bytes = l }) a) limits_whole
       (subst (λ p. ChartsWalk fault (record { name = plan.name; bytes = p }) (front m limits) a) plan_whole h)
 
-  shown_front : (r : PlanRefusal) (plan limits : NamedText) (a : Answer) → ShowsRefusal r (front n plan) (front m limits) a
+  shows_front : (r : PlanRefusal) (plan limits : NamedText) (a : Answer) → ShowsRefusal r (front n plan) (front m limits) a
       → ShowsRefusal r plan limits a
-  shown_front (refusals.Range fault) plan limits a h = walk_front fault plan limits a h
-  shown_front (refusals.Read fault) plan limits a h = chart_front plan limits a h
-  shown_front (refusals.Expr spot fault) plan limits a h = chart_front plan limits a h
-  shown_front (refusals.Types fault) plan limits a h = chart_front plan limits a h
-  shown_front (refusals.Order fault) plan limits a h = chart_front plan limits a h
-  shown_front (refusals.Limits fault) plan limits a h = chart_front plan limits a h
-  shown_front (refusals.LimitName name) plan limits a h = chart_front plan limits a h
-  shown_front (refusals.LimitKind name) plan limits a h = chart_front plan limits a h
-  shown_front (refusals.Bind name) plan limits a h = chart_front plan limits a h
-  shown_front refusals.Memory plan limits a h = chart_front plan limits a h
+  shows_front (refusals.Range fault) plan limits a h = walk_front fault plan limits a h
+  shows_front (refusals.Read fault) plan limits a h = chart_front plan limits a h
+  shows_front (refusals.Expr spot fault) plan limits a h = chart_front plan limits a h
+  shows_front (refusals.Types fault) plan limits a h = chart_front plan limits a h
+  shows_front (refusals.Order fault) plan limits a h = chart_front plan limits a h
+  shows_front (refusals.Limits fault) plan limits a h = chart_front plan limits a h
+  shows_front (refusals.LimitName name) plan limits a h = chart_front plan limits a h
+  shows_front (refusals.LimitKind name) plan limits a h = chart_front plan limits a h
+  shows_front (refusals.Bind name) plan limits a h = chart_front plan limits a h
+  shows_front refusals.Memory plan limits a h = chart_front plan limits a h
 
   within_front : (plan limits : NamedText) (a : Answer) → IsChartWithin (front n plan) (front m limits) a
       → IsChartWithin plan limits a
@@ -358,7 +358,7 @@ module _ (n m : ℕ) (more_plan : 1048576 < n) (more_limits : 262144 < m) where
     h.0,
     record {
       refused = refused_front plan.bytes limits.bytes h.0 h.1.refused;
-      shows = shown_front h.0 plan limits a h.1.shows;
+      shows = shows_front h.0 plan limits a h.1.shows;
     },
   )
 

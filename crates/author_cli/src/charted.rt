@@ -8,7 +8,7 @@ ghost use Rattle.pap_plan.specs.BoundPlans.{IsBoundPlan, IsUnboundOrMemory};
 ghost use Rattle.plain_words.specs.Places.{named_text};
 ghost use Rattle.flowchart_page.specs.Pages.{IsRunPage};
 ghost use Rattle.flowchart_page.specs.Verdicts.{IsJudged};
-ghost use Rattle.range_marks.specs.RangeMarks.{findings_in, failing_of, refused_findings, AreFindings, AreRefusedFindings};
+ghost use Rattle.range_marks.specs.RangeMarks.{findings_in, failing_of, range_marks, refused_findings, AreFindings, AreRefusedFindings};
 ghost use Rattle.author_cli.specs.Answers.{IsChart, ShowsRanges, refused_runs, ShowsRefused, ChartsRefused, IsChartWithin};
 ghost use Rattle.author_cli.specs.private.AnswerViews.{answer_of};
 ghost use Rattle.author_cli.specs.private.ChartViews.{is_memory, is_memory_fault};
@@ -18,6 +18,7 @@ use flowchart_methods::MethodMarks;
 use flowchart_page::{Chart, draw_chart, draw_ranged, draw_stopped};
 use interval_analysis::{RangeFault, RefusedSurvey, Survey, survey};
 use pap_plan::{BoundPlan, PlanRefusal, read_bound};
+use pap_tree::PlanText;
 use plain_words::TextFile;
 use range_marks::{FailingNode, Findings, internal_ranges, range_marks};
 use std::alloc::{AllocError, Global};
@@ -68,11 +69,29 @@ fn chart_ranges(
     ensures { IfOk result (λ answer. ShowsRanges (named_text plan.entry) (named_text limits.entry)
         (flowchart_of bound.now.typed) bound.now.limits (answer_of answer)) }
 {
-    let findings = Findings::of(survey);
-    let marks = range_marks(alloc, bound.typed.plan(), &findings)?;
+    let marks = survey_marks(alloc, bound.typed.plan(), survey)?;
     let internals = internal_ranges(alloc, &bound.typed, survey)?;
     let Chart { page, reason } = draw_ranged(alloc, plan, limits, &marks, &internals)?;
     Ok(Answer { text: page, reason })
+}
+
+/// The marks of what a walk found that passes.
+fn survey_marks(
+    alloc: Global,
+    plan: &PlanText,
+    survey: &Survey,
+) -> Result<Vec<MethodMarks>, AllocError>
+    ensures { IfOk result (λ marks. marks.items
+        ≡ range_marks (flowchart_of plan.now) (findings_in survey.now)) }
+{
+    let failing: Option<FailingNode<'_>> = None;
+    let findings = Findings {
+        reached: &survey.reached,
+        values: &survey.values,
+        exits: &survey.exits,
+        failing,
+    };
+    range_marks(alloc, plan, &findings)
 }
 
 /// The page of a plan whose walk is refused.
