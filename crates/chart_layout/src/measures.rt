@@ -65,8 +65,11 @@ pub(crate) const PLACE_CHAR: u32 = 59;
 /// One of the word with which a method begins or ends.
 pub(crate) const WORD_CHAR: u32 = 80;
 
-/// One of a comment.
+/// One of a comment that is no capital.
 pub(crate) const NOTE_CHAR: u32 = 62;
+
+/// A capital of a comment.
+pub(crate) const NOTE_CAPITAL: u32 = 86;
 
 // ---- comments
 

@@ -1,5 +1,7 @@
 //! Comments of the file beside the spine.
-use crate::measures::{BOX_SIDE, CODE_CHAR, NOTE_CHAR, NOTE_CHARS_LESS, NOTE_LINE, NOTE_SIDES};
+use crate::measures::{
+    BOX_SIDE, CODE_CHAR, NOTE_CAPITAL, NOTE_CHAR, NOTE_CHARS_LESS, NOTE_LINE, NOTE_SIDES,
+};
 use crate::pieces::count_chars;
 use crate::px::{Px, tenths};
 use std::alloc::{AllocError, Global};
@@ -34,12 +36,22 @@ impl Note {
 
     /// How much room it takes beside the spine.
     pub(crate) fn width(&self) -> Px {
-        let mut longest = 0;
+        let mut widest = 0;
         for line in &self.lines {
-            longest = count_chars(line.as_bytes()).max(longest);
+            widest = line_tenths(line.as_bytes()).max(widest);
         }
-        Px::of_tenths(tenths(longest, NOTE_CHAR)) + NOTE_SIDES
+        Px::of_tenths(widest) + NOTE_SIDES
     }
+}
+
+/// How wide a line of a comment is, in tenths of a px.
+fn line_tenths(line: &[u8]) -> u32 {
+    let capitals = line
+        .iter()
+        .filter(|byte| byte.is_ascii_uppercase())
+        .count();
+    let others = count_chars(line).saturating_sub(capitals);
+    tenths(capitals, NOTE_CAPITAL).saturating_add(tenths(others, NOTE_CHAR))
 }
 
 /// Appends the lines of a comment.
