@@ -1,5 +1,4 @@
 mod NameLemmas
-mod CountLemmas
 mod StartLemmas
 mod PutLemmas
 mod MethodLemmas

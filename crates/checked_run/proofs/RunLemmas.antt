@@ -25,7 +25,7 @@ use Rattle.checked_run.specs.declared.statements.Spot.{Spot}
 use Rattle.checked_run.specs.RunFailures.{EvaluatesTo, ExpressionFails, RunsTo, ExecutesTo, BodyFails, CallsFail}
 use Rattle.checked_run.specs.private.ValueViews.{values_in, IsSized}
 use Rattle.checked_run.specs.private.WalkViews.{calls_by, RunsFromTo, FailsFrom, CanRun}
-use Rattle.checked_run.proofs.CountLemmas.{written-then}
+use Rattle.pap_tree.proofs.Laws.{written-then}
 use Rattle.checked_run.proofs.ExpressionLemmas.{same_value}
 
 -- ---- bools and options

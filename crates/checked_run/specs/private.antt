@@ -1,5 +1,4 @@
 pub mod FitViews
 pub mod OperationViews
-pub mod OutlineViews
 pub mod ValueViews
 pub mod WalkViews

@@ -11,10 +11,9 @@ use crate::names::{table, value_of_name};
 use crate::operations::{
     goes_right, is_zero, item, kind_of_one, kind_of_two, one_value, two_value,
 };
-use crate::outlines::outline_of;
 use crate::steps::{One, Two};
 use pap_tree::{Expr, Name};
-use pap_types::{NodeKind, Typed};
+use pap_types::{NodeKind, Typed, outline_of};
 use scaled_decimal::Dec;
 
 /// The value of an expression, its kind, and the number that follows its nodes'.

@@ -9,10 +9,9 @@ ghost use Rattle.checked_run.specs.private.WalkViews.{CanRun, CanExecute, CanEva
 
 use crate::RunFailure;
 use crate::expressions::evaluate;
-use crate::lists::written;
 use crate::operations::is_zero;
 use crate::values::put;
-use pap_tree::{Expr, Method, Name, Place, Stmt};
+use pap_tree::{Expr, Method, Name, Place, Stmt, written};
 use pap_types::Typed;
 use scaled_decimal::Dec;
 

@@ -1,4 +1,3 @@
-mod CountLemmas
 mod CursorLemmas
 mod ExitLemmas
 mod FindingLemmas

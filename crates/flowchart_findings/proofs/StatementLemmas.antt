@@ -7,12 +7,11 @@ use Rattle.pap_tree.specs.declared.expression.Expr.{Expr}
 use Rattle.pap_tree.specs.declared.plan.Stmt.{Stmt, Eval, If, If', Execute}
 use Rattle.pap_tree.specs.Flowchart.{Body, done, body_of, body_of_row, stmt_then}
 use Rattle.pap_tree.specs.Statements.{written}
-use Rattle.pap_tree.proofs.Laws.{stmt_at, branch_is}
+use Rattle.pap_tree.proofs.Laws.{stmt_at, branch_is, written-then}
 use Rattle.flowchart_findings.specs.declared.finding.Finding.{Finding}
 use Rattle.flowchart_findings.specs.declared.statements.Inspection.{Inspection}
 use Rattle.flowchart_findings.specs.Findings.{begins_dead}
 use Rattle.flowchart_findings.specs.private.StatementViews.{AddsFindings, dead_in, dead_found, value_found, tests_found, found_in, found_inside, FindsInBody, FindsInBranches}
-use Rattle.flowchart_findings.proofs.CountLemmas.{written-then}
 
 module _ (i : Inspection) where
   -- a statement, and those behind it

@@ -1,7 +1,6 @@
 //! What the author of a flowchart may want to change: what no run executes, and what nothing reads or assigns.
 #![tactic(auto)]
 
-mod counts;
 mod cursor;
 mod declarations;
 mod finding;

@@ -5,10 +5,9 @@ ghost use Rattle.pap_tree.specs.Statements.{written};
 ghost use Rattle.flowchart_findings.specs.Findings.{begins_dead, dead_first};
 ghost use Rattle.flowchart_findings.specs.private.StatementViews.{dead_in, closed_in, site_in, dead_found, value_found, tests_found, never_true_found, never_false_found, FindsInBody, FindsInBranches, FindsInMethod};
 
-use crate::counts::{written, written_in};
 use crate::finding::{Finding, StatementSite};
 use crate::name_sets::NameSets;
-use pap_tree::{Name, Stmt};
+use pap_tree::{Name, Stmt, written, written_in};
 use std::alloc::AllocError;
 use std::collections::BTreeSet;
 

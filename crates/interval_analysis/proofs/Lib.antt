@@ -3,7 +3,7 @@ pub mod BoundLemmas
 pub mod ChangeLemmas
 pub mod ComparisonLemmas
 pub mod ConnectiveLemmas
-pub mod CountLemmas
+pub mod BodyLemmas
 pub mod ExpressionLemmas
 pub mod KeptLemmas
 pub mod Laws

@@ -7,7 +7,6 @@ pub mod Meetings
 pub mod Notes
 pub mod NumberViews
 pub mod OperationViews
-pub mod OutlineViews
 pub mod OutputViews
 pub mod PlanViews
 pub mod ShapeViews

@@ -18,11 +18,10 @@ use crate::comparisons::{
 use crate::expressions::{Operands, Stop, Walk};
 use crate::nodes::{literal, own_two};
 use crate::operations::comparison_range;
-use crate::outlines::outline_of;
 use crate::variables::{Variables, taken_back};
 use interval_num::{Abs, RangeCause, SignSet, abs_cmp, signs};
 use pap_tree::{Binary, Call, Expr, Unary};
-use pap_types::NodeKind;
+use pap_types::{NodeKind, outline_of};
 use scaled_decimal::Dec;
 use std::alloc::AllocError;
 

@@ -14,13 +14,12 @@ use crate::conditions::Tested;
 use crate::names::{kind_named, single};
 use crate::nodes::{either, item, literal, named, one, reached, two, unreached};
 use crate::operations::read;
-use crate::outlines::outline_of;
 use crate::shapes::{Leaf, Shape, shape_of};
 use crate::tables::TabledPlan;
 use crate::variables::Variables;
 use interval_num::{Abs, RangeCause};
 use pap_tree::{Expr, Name};
-use pap_types::NodeKind;
+use pap_types::{NodeKind, outline_of};
 use scaled_decimal::Dec;
 use std::alloc::{AllocError, Global};
 

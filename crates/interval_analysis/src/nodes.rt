@@ -14,11 +14,10 @@ ghost use Rattle.interval_analysis.specs.private.StopViews.{range_list};
 use crate::expressions::{Operands, Part, Ranged, Stop};
 use crate::names::single;
 use crate::operations::{item_range, one_range, read, two_range};
-use crate::outlines::Outline;
 use crate::shapes::{One, Two};
 use interval_num::{Abs, ItemRanges, RangeCause, join};
 use pap_tree::Expr;
-use pap_types::{NodeKind, Typed, kind_of_call, kind_of_operator, kind_of_unary};
+use pap_types::{NodeKind, Outline, Typed, kind_of_call, kind_of_operator, kind_of_unary};
 use scaled_decimal::Dec;
 
 /// The answer of a node that has no operands, or whose operands leave its range to one of them.

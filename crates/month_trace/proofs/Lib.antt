@@ -2,7 +2,6 @@ mod NameLemmas
 mod OperationLemmas
 mod ExpressionLemmas
 mod StartLemmas
-mod CountLemmas
 mod PutLemmas
 mod MethodLemmas
 mod RunLemmas

@@ -23,7 +23,7 @@ use Rattle.pap_types.specs.private.ScopeViews.{scope_in}
 use Rattle.month_trace.specs.private.ValueViews.{values_in, IsSized}
 use Rattle.pap_tree.specs.private.TreeViews.{methods_in}
 use Rattle.month_trace.specs.private.WalkViews.{calls_by, traces_by, after_in, traced_in, followed, CanRun, Progress, Goes}
-use Rattle.month_trace.proofs.CountLemmas.{written-then}
+use Rattle.pap_tree.proofs.Laws.{written-then}
 use Rattle.month_trace.proofs.OperationLemmas.{some_first, some_step}
 
 -- ---- options

@@ -3,7 +3,6 @@
 
 mod book;
 mod expressions;
-mod lists;
 mod operations;
 mod refusal;
 mod run;

@@ -8,11 +8,10 @@ ghost use Rattle.pap_tree.specs.private.TreeViews.{if_of, methods_in};
 ghost use Rattle.month_trace.specs.private.WalkViews.{CanRun, CanExecute, IsMethodBody, GoesTo, GoesInside, progress};
 
 use crate::expressions::value_of;
-use crate::lists::written;
 use crate::operations::is_zero;
 use crate::step::TraceStep;
 use crate::values::put;
-use pap_tree::{Expr, Method, Name, Stmt};
+use pap_tree::{Expr, Method, Name, Stmt, written};
 use pap_types::Typed;
 use scaled_decimal::Dec;
 use std::alloc::AllocError;

@@ -15,5 +15,6 @@ pub mod Bounds
 pub mod Meaning
 pub mod MeaningLaws
 pub mod NumberedNames
+pub mod Outlines
 pub mod TypedPlans
 pub mod private

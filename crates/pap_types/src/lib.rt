@@ -11,6 +11,7 @@ mod literals;
 mod meaning;
 mod name_hashes;
 mod nodes;
+mod outlines;
 mod scope;
 mod sizes;
 mod statements;
@@ -22,4 +23,5 @@ pub use kinds::{NodeKind, has_few_places, kind_of_call, kind_of_operator, kind_o
 pub use limits::LONGEST_CHAIN;
 pub use literals::{FACTOR_PLACES, at_factor_scale, first_value, items_of, shortened};
 pub use meaning::{bounded, one_outputs, typed_parts};
+pub use outlines::{Outline, outline_of};
 pub use typed::{Typed, check_types};

@@ -3,12 +3,11 @@ use Rattle.std.specs.Prelude.{min}
 use Rattle.pap_tree.specs.Term.{term_of}
 use Rattle.pap_tree.specs.Flowchart.{flowchart_of, body_of, done}
 use Rattle.pap_tree.specs.Statements.{written}
-use Rattle.pap_tree.proofs.Laws.{stmt_at, branch_is}
+use Rattle.pap_tree.proofs.Laws.{stmt_at, branch_is, written_at}
 use Rattle.pap_types.specs.Bounds.{term_bound, body_bound}
 use Rattle.pap_types.specs.Counts.{AreSmallTerms}
 use Rattle.interval_analysis.specs.private.BoundViews.{last_sum, bound_at, stopped_bound}
 use Rattle.interval_analysis.proofs.BoundLemmas.{small_here, small_rest, sum_more, sum_all, if_sum}
-use Rattle.interval_analysis.proofs.CountLemmas.{written_at}
 use Rattle.interval_analysis.proofs.bounds.+bound.Goals as goal
 
 pub body_bound-stmt_bound-requires : goal.body_bound-stmt_bound-requires

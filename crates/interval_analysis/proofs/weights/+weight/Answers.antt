@@ -1,8 +1,7 @@
 use Rattle.std.proofs.Common.{refl, ap, arith}
 use Rattle.pap_tree.specs.Flowchart.{done}
 use Rattle.pap_tree.specs.Statements.{written}
-use Rattle.pap_tree.proofs.Laws.{branch_is}
-use Rattle.interval_analysis.proofs.CountLemmas.{written_at}
+use Rattle.pap_tree.proofs.Laws.{branch_is, written_at}
 use Rattle.interval_analysis.proofs.weights.+weight.Goals as goal
 
 pub weight-stmt_weight-requires : goal.weight-stmt_weight-requires

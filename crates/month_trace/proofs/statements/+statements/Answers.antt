@@ -2,13 +2,12 @@ use Rattle.std.proofs.Common.{◌+◌, drop, sym, ap, ◌∙◌, subst, arith}
 use Rattle.std.specs.Prelude.{IsSome}
 use Rattle.pap_tree.specs.Flowchart.{body_of, done}
 use Rattle.pap_tree.specs.Statements.{written}
-use Rattle.pap_tree.proofs.Laws.{stmt_at, branch_is}
+use Rattle.pap_tree.proofs.Laws.{stmt_at, branch_is, written_at}
 use Rattle.pap_types.specs.Routines.{body_named}
 use Rattle.pap_types.specs.private.ScopeViews.{scope_in}
 use Rattle.month_trace.specs.private.ValueViews.{values_in}
 use Rattle.pap_tree.specs.private.TreeViews.{methods_in}
 use Rattle.month_trace.specs.private.WalkViews.{CanRun, GoesTo, progress, after_in, traced_in, followed}
-use Rattle.month_trace.proofs.CountLemmas.{written_at}
 use Rattle.month_trace.proofs.OperationLemmas.{none_there}
 use Rattle.month_trace.proofs.RunLemmas.{can_here, can_rest, ends_on, steps_on, chain_some, method_there, after_body, traced_body, safe_body}
 use Rattle.month_trace.proofs.statements.+statements.Goals as goal

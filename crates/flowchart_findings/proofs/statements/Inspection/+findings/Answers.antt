@@ -1,6 +1,6 @@
 use Rattle.std.proofs.Common.{◌+◌, ap, arith}
 use Rattle.pap_tree.specs.Flowchart.{body_of}
-use Rattle.flowchart_findings.proofs.CountLemmas.{written_at}
+use Rattle.pap_tree.proofs.Laws.{written_at}
 use Rattle.flowchart_findings.proofs.StatementLemmas.{one_step, if_written, branches_added, dead_finds, eval_finds, execute_finds, if_finds}
 use Rattle.flowchart_findings.proofs.statements.Inspection.+findings.Goals as goal
 

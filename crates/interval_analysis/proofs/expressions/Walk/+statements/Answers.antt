@@ -4,7 +4,7 @@ use Rattle.std.proofs.lemmas.List.{drop_all}
 use Rattle.pap_tree.specs.Flowchart.{body_of, stmt_then, done}
 use Rattle.pap_tree.specs.Term.{term_of}
 use Rattle.pap_tree.specs.Statements.{written}
-use Rattle.pap_tree.proofs.Laws.{stmt_at, branch_is}
+use Rattle.pap_tree.proofs.Laws.{stmt_at, branch_is, written_at}
 use Rattle.pap_types.specs.Routines.{body_named}
 use Rattle.pap_types.specs.private.ScopeViews.{scope_in}
 use Rattle.interval_analysis.specs.private.PlanViews.{ranges_in, branches_in}
@@ -20,7 +20,7 @@ use Rattle.interval_analysis.proofs.VisitLemmas.{gather_none, turn_gathers, stop
 use Rattle.interval_analysis.proofs.StopLemmas.{both_ok, stops_any, stops_step, stops_map, with_err, with_lost, with_stop}
 use Rattle.interval_analysis.proofs.NoteLemmas.{noted_then, since}
 use Rattle.interval_analysis.proofs.RepeatLemmas.{noted_longer}
-use Rattle.interval_analysis.proofs.CountLemmas.{written_at, can_here, can_rest}
+use Rattle.interval_analysis.proofs.BodyLemmas.{can_here, can_rest}
 use Rattle.interval_analysis.proofs.VariableLemmas.{goes_again, goes_noted, goes_then, trimmed}
 use Rattle.interval_analysis.proofs.StatementLemmas.{step_on, step_stops, fault_as, passes_not, env_err, passes_to, if_forks, if_passes, both_join, both_join_back, both_stop, both_stop_back, both_fault, no_chain, no_method, calls_body}
 use Rattle.interval_analysis.proofs.expressions.Walk.+statements.Goals as goal

@@ -1,7 +1,7 @@
 use Rattle.std.proofs.Common.{◌≡◌, ◌+◌, ◌*◌, drop}
 use Rattle.pap_tree.specs.Flowchart.{body_of, stmt_then, done}
 use Rattle.pap_tree.specs.Statements.{written}
-use Rattle.interval_analysis.proofs.lists.+count.Given as goal
+use Rattle.pap_tree.proofs.counts.+count.Given as goal
 
 abbrev pub decreases-written : goal.decreases-written
 decreases-written l = 2 * written (body_of l.body.now) + 1

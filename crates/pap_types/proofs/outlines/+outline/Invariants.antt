@@ -1,7 +1,7 @@
 use Rattle.std.proofs.Common.{◌*◌, ◌+◌}
 use Rattle.pap_tree.specs.Term.{term_of}
 use Rattle.pap_tree.specs.Numbering.{nodes}
-use Rattle.checked_run.proofs.outlines.+outline.Given as goal
+use Rattle.pap_types.proofs.outlines.+outline.Given as goal
 
 abbrev pub decreases-outline_of : goal.decreases-outline_of
 decreases-outline_of l = 3 * nodes (term_of l.e.now)

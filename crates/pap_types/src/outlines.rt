@@ -1,15 +1,17 @@
-//! The kinds and the numbers of nodes of parts that aren't evaluated.
+//! The kinds of expressions, and how many nodes they have.
 ghost use Rattle.std.specs.Prelude.{◌≡◌, ◌+◌, ◌<◌, ◌^◌};
 ghost use Rattle.pap_tree.specs.Term.{term_of, choice};
 ghost use Rattle.pap_tree.specs.Numbering.{nodes};
-ghost use Rattle.checked_run.specs.private.OutlineViews.{IsOutline, AreOutlines};
+ghost use Rattle.pap_types.specs.Outlines.{IsOutline};
+ghost use Rattle.pap_types.specs.private.OutlineViews.{AreOutlines};
 
+use crate::kinds::{NodeKind, kind_of_call, kind_of_operator, kind_of_unary};
+use crate::typed::Typed;
 use pap_tree::Expr;
-use pap_types::{NodeKind, Typed, kind_of_call, kind_of_operator, kind_of_unary};
 
 /// The kind of an expression, and the number that follows its nodes'.
 #[derive(Clone, Copy)]
-pub(crate) struct Outline {
+pub struct Outline {
     pub kind: NodeKind,
     pub next: u32,
 }
@@ -21,9 +23,9 @@ pub(crate) struct Outlines {
     pub second: Outline,
 }
 
-/// The outline of an expression whose nodes are numbered from `at`.
+/// The outline of an expression whose nodes are numbered from `at`. Time is linear in its nodes.
 #[cycle(outline)]
-pub(crate) fn outline_of(plan: &Typed, e: &Expr, at: u32) -> Outline
+pub fn outline_of(plan: &Typed, e: &Expr, at: u32) -> Outline
     requires { at + nodes (term_of e.now) < 2 ^ 32 }
     ensures { IsOutline plan.now (term_of e.now) at result }
 {

@@ -1,8 +1,8 @@
 use Rattle.std.proofs.Common.{◌∙◌, ap, arith}
 use Rattle.pap_tree.specs.Flowchart.{body_of}
 use Rattle.pap_tree.specs.Statements.{written}
-use Rattle.flowchart_findings.proofs.CountLemmas.{written_at, written_if}
-use Rattle.flowchart_findings.proofs.counts.+count.Goals as goal
+use Rattle.pap_tree.proofs.CountLemmas.{written_at, written_if}
+use Rattle.pap_tree.proofs.counts.+count.Goals as goal
 
 pub written-written_in-count-requires : goal.written-written_in-count-requires
 written-written_in-count-requires t c =
