@@ -5,7 +5,6 @@ pub mod Connectives
 pub mod ExpressionViews
 pub mod Meetings
 pub mod Notes
-pub mod NumberViews
 pub mod OperationViews
 pub mod OutputViews
 pub mod PlanViews

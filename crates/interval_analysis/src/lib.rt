@@ -18,7 +18,6 @@ mod fault;
 mod joins;
 mod names;
 mod nodes;
-mod numbers;
 mod operations;
 mod outputs;
 mod repeats;

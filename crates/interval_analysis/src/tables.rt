@@ -1,4 +1,4 @@
-//! A plan with the ranges of its tables' items and the numbers of its variables, computed once before the walk.
+//! A plan with the ranges of its tables' items, computed once before the walk.
 //!
 //! The ranges of a table's items are joined once, each two neighbours, then each two of these, so that an item
 //! whose index may be anything takes time with the logarithm of the table's length.
@@ -8,14 +8,13 @@ ghost use Rattle.pap_types.specs.private.ScopeViews.{scope_in, variables_in};
 ghost use Rattle.interval_analysis.specs.private.StartViews.{declarations};
 ghost use Rattle.interval_analysis.specs.private.TableViews.{tables_of};
 
-use crate::numbers::VariableNumbers;
 use interval_num::ItemRanges;
 use pap_tree::{Declared, Name};
 use pap_types::{Typed, items_of};
 use std::alloc::{AllocError, Global};
 use std::marker::Model;
 
-/// A plan with the ranges of its tables' items and the numbers of its variables. Contracts see the plan.
+/// A plan with the ranges of its tables' items. Contracts see the plan.
 #[derive(Drop)]
 pub(crate) struct TabledPlan<'a> {
     typed: &'a Typed,
@@ -25,7 +24,6 @@ pub(crate) struct TabledPlan<'a> {
     constants: Vec<ItemRanges>,
     /// That of a name that isn't declared.
     none: ItemRanges,
-    numbers: VariableNumbers,
 }
 
 impl<'a> Model for TabledPlan<'a> {
@@ -42,7 +40,7 @@ impl<'a> Model for TabledPlan<'a> {
     ghost view = { λ p. p.typed.now };
 
     ghost invariant = { λ p.
-        IsTabled p.typed.now p.variables.items p.constants.items p.none p.numbers };
+        IsTabled p.typed.now p.variables.items p.constants.items p.none };
 }
 
 impl<'a> TabledPlan<'a> {
@@ -58,13 +56,11 @@ impl<'a> TabledPlan<'a> {
         let mut constants = Vec::new(alloc);
         push_tables(alloc, &mut constants, text.constants.as_slice())?;
         let none = ItemRanges::of(alloc, &[])?;
-        let numbers = VariableNumbers::of(alloc, typed)?;
         Ok(TabledPlan {
             typed,
             variables,
             constants,
             none,
-            numbers,
         })
     }
 
@@ -79,7 +75,7 @@ impl<'a> TabledPlan<'a> {
     pub fn variable(&self, name: &Name) -> Option<usize>
         ensures { result ≡ number_of (variables_in self.now) name.now }
     {
-        self.numbers.number_of(self.typed, name)
+        self.typed.variable(name)
     }
 
     /// The items of a table; a name that is none has no items.
