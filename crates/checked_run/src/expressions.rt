@@ -1,19 +1,16 @@
 //! The values of expressions, or the first node that fails.
 ghost use Rattle.std.specs.Prelude.{◌≡◌, ◌<◌, ◌+◌, ◌^◌};
+ghost use Rattle.pap_tree.specs.Shapes.{one_meant, two_meant};
 ghost use Rattle.pap_tree.specs.Term.{term_of, leaf, named, item, one, two};
 ghost use Rattle.pap_tree.specs.private.TreeViews.{choice_of};
-ghost use Rattle.checked_run.specs.private.OperationViews.{one_meant, two_meant};
 ghost use Rattle.checked_run.specs.private.ValueViews.{CanEvaluate, IsEvaluated, EvaluationAnswer, OwnAnswer};
 
 use crate::FailureCause;
 use crate::failure::NodeFailure;
 use crate::names::{table, value_of_name};
-use crate::operations::{
-    goes_right, is_zero, item, kind_of_one, kind_of_two, one_value, two_value,
-};
-use crate::steps::{One, Two};
-use pap_tree::{Expr, Name};
-use pap_types::{NodeKind, Typed, outline_of};
+use crate::operations::{goes_right, is_zero, item, one_value, two_value};
+use pap_tree::{Expr, Name, One, Two};
+use pap_types::{NodeKind, Typed, kind_of_one, kind_of_two, outline_of};
 use scaled_decimal::Dec;
 
 /// The value of an expression, its kind, and the number that follows its nodes'.

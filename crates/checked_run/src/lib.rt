@@ -11,7 +11,6 @@ mod names;
 mod operations;
 mod run;
 mod statements;
-mod steps;
 mod values;
 
 pub use cause::FailureCause;

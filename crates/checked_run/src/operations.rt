@@ -6,21 +6,20 @@ ghost use Rattle.scaled_decimal.specs.ShortenedDecimals.{exact_quotient};
 ghost use Rattle.scaled_decimal.specs.WorkingNumbers.{ExactQuotientFits};
 ghost use Rattle.scaled_decimal.specs.WholeNumbers.{truth, item_at, whole_sum, whole_difference, whole_quotient, whole_remainder};
 ghost use Rattle.pap_tree.specs.Scales.{OneKeepsScale, TwoKeepsScale};
+ghost use Rattle.pap_tree.specs.Shapes.{one_meant, two_meant};
 ghost use Rattle.pap_tree.specs.Term.{Term, term_of, unary, set_scale, operator, method, divide};
-ghost use Rattle.pap_types.specs.Kinds.{kind_of_one, kind_of_two};
 ghost use Rattle.pap_types.specs.Operations.{as_big, is_zero, holds_of};
 ghost use Rattle.pap_types.specs.Safety.{bits_of};
 ghost use Rattle.pap_types.specs.Values.{goes_right};
-ghost use Rattle.checked_run.specs.private.OperationViews.{one_meant, two_meant, WholeAnswer, OneAnswer, TwoAnswer, IsPlainFor, IsPlainForTwo, IsComparison, IsOrdering};
+ghost use Rattle.checked_run.specs.private.OperationViews.{WholeAnswer, OneAnswer, TwoAnswer, IsPlainFor, IsPlainForTwo, IsComparison, IsOrdering};
 
 use crate::FailureCause;
 use crate::fits::{
     comparison_fits, difference_fits, exact_quotient_fits, is_of_kind, places_of, product_of,
     quotient_fits, rescale_fits, sum_fits,
 };
-use crate::steps::{One, Two};
-use pap_tree::{Binary, Call, Expr, Unary};
-use pap_types::{NodeKind, kind_of_call, kind_of_operator, kind_of_unary, shortened};
+use pap_tree::{Binary, Call, Expr, One, Two, Unary};
+use pap_types::{NodeKind, shortened};
 use scaled_decimal::{Dec, MOST_PLACES, Mode};
 use std::cmp::Ordering;
 
@@ -46,27 +45,6 @@ pub(crate) fn goes_right(op: Two, left: Dec) -> bool
         Two::Operator(Binary::And) => !is_zero(left),
         Two::Operator(Binary::Or) => is_zero(left),
         Two::Operator(_) | Two::Method(_) | Two::Divide(_, _) => true,
-    }
-}
-
-/// The kind of what is done with an operand of a kind.
-pub(crate) fn kind_of_one(op: One, kind: NodeKind) -> NodeKind
-    ensures { result ≡ kind_of_one (one_meant op) kind }
-{
-    match op {
-        One::Unary(op) => kind_of_unary(op, kind),
-        One::ValueOf | One::ValueOfScaled(_) | One::NewInt | One::SetScale(_, _) => NodeKind::Big,
-    }
-}
-
-/// The same of two operands.
-pub(crate) fn kind_of_two(op: Two, left: NodeKind, right: NodeKind) -> NodeKind
-    ensures { result ≡ kind_of_two (two_meant op) left right }
-{
-    match op {
-        Two::Operator(op) => kind_of_operator(op, left, right),
-        Two::Method(call) => kind_of_call(call),
-        Two::Divide(_, _) => NodeKind::Big,
     }
 }
 

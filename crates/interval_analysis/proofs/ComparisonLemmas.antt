@@ -41,11 +41,12 @@ use Rattle.interval_analysis.specs.declared.conditions.Inner.{Inner}
 use Rattle.interval_analysis.specs.declared.conditions.Tested.{Tested}
 use Rattle.interval_analysis.specs.declared.expressions.Operands.{Operands}
 use Rattle.interval_analysis.specs.declared.expressions.Ranged.{Ranged}
-use Rattle.interval_analysis.specs.declared.shapes.One.{One}
-use Rattle.interval_analysis.specs.declared.shapes.One.TheVariants as ones
-use Rattle.interval_analysis.specs.declared.shapes.Two.{Two}
-use Rattle.interval_analysis.specs.declared.shapes.Two.TheVariants as twos
-use Rattle.interval_analysis.specs.private.ShapeViews.{TakesOne, TakesTwo, one_meant, two_meant}
+use Rattle.pap_tree.specs.declared.shapes.One.{One}
+use Rattle.pap_tree.specs.declared.shapes.One.TheVariants as ones
+use Rattle.pap_tree.specs.declared.shapes.Two.{Two}
+use Rattle.pap_tree.specs.declared.shapes.Two.TheVariants as twos
+use Rattle.pap_tree.specs.Shapes.{one_meant, two_meant}
+use Rattle.interval_analysis.specs.private.ShapeViews.{TakesOne, TakesTwo}
 use Rattle.interval_analysis.specs.declared.expressions.Walk.{Walk}
 use Rattle.pap_types.specs.private.ScopeViews.{scope_in, variables_in}
 use Rattle.interval_analysis.specs.private.PlanViews.{IsSized, variable_in, ranges_in}

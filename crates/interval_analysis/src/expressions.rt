@@ -4,7 +4,7 @@ ghost use Rattle.pap_tree.specs.Term.{term_of, leaf, named};
 ghost use Rattle.pap_types.specs.Scopes.{number_of};
 ghost use Rattle.pap_types.specs.private.ScopeViews.{variables_in};
 ghost use Rattle.interval_analysis.specs.private.PlanViews.{IsSized, name_range_in, ranges_after, branches_in};
-ghost use Rattle.interval_analysis.specs.private.ShapeViews.{leaf_of};
+ghost use Rattle.pap_tree.specs.Shapes.{leaf_meant};
 ghost use Rattle.interval_analysis.specs.private.VariableViews.{AreHeld, GoesOn, IsLeft};
 ghost use Rattle.pap_tree.specs.private.TreeViews.{choice_of};
 ghost use Rattle.interval_analysis.specs.private.ExpressionViews.{CanWalk, CanWalkTwo, CanWalkParts, RangeAnswer, OperandsAnswer, PartAnswer, PartsAnswer};
@@ -14,11 +14,10 @@ use crate::conditions::Tested;
 use crate::names::{kind_named, single};
 use crate::nodes::{either, item, literal, named, one, reached, two, unreached};
 use crate::operations::read;
-use crate::shapes::{Leaf, Shape, shape_of};
 use crate::tables::TabledPlan;
 use crate::variables::Variables;
 use interval_num::{Abs, RangeCause};
-use pap_tree::{Expr, Name};
+use pap_tree::{Expr, Leaf, Name, Shape, shape_of};
 use pap_types::{NodeKind, outline_of};
 use scaled_decimal::Dec;
 use std::alloc::{AllocError, Global};
@@ -124,9 +123,9 @@ impl Walk<'_> {
 
     /// The range of a literal or of a name.
     fn range_of_leaf(&self, source: &Leaf, at: u32, ranges: &[Abs]) -> Result<Ranged, Stop>
-        requires walk { CanWalk self.now (leaf (leaf_of source.now)) at }
+        requires walk { CanWalk self.now (leaf (leaf_meant source.now)) at }
         requires sized { IsSized self.now.plan.now ranges.now }
-        ensures { RangeAnswer self.now (leaf (leaf_of source.now)) at ranges.now result }
+        ensures { RangeAnswer self.now (leaf (leaf_meant source.now)) at ranges.now result }
     {
         match source {
             Leaf::Int(number) => literal(Dec::new(*number as i128, 0), NodeKind::Int, at),

@@ -21,7 +21,6 @@ mod nodes;
 mod operations;
 mod outputs;
 mod repeats;
-mod shapes;
 mod start;
 mod statements;
 mod stop;

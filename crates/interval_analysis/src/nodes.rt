@@ -1,23 +1,23 @@
 //! The ranges of single nodes, whose operands can't fail.
 ghost use Rattle.std.specs.Prelude.{◌≡◌, ◌+◌, ◌<◌, ◌^◌, [], ◌∷◌, Some, None};
 ghost use Rattle.pap_tree.specs.Term.{term_of};
+ghost use Rattle.pap_tree.specs.Shapes.{one_meant, two_meant};
 ghost use Rattle.pap_types.specs.Kinds.{kind_of_one, kind_of_two, wider};
 ghost use Rattle.interval_num.specs.Intervals.{IsWhole};
 ghost use Rattle.interval_walk.specs.Failures.{at_node};
 ghost use Rattle.interval_walk.specs.Ranges.{single};
 ghost use Rattle.interval_walk.specs.NodeRanges.{read_range, item_range};
 ghost use Rattle.pap_types.specs.private.ScopeViews.{scope_in};
-ghost use Rattle.interval_analysis.specs.private.ShapeViews.{TakesOne, TakesTwo, one_meant, two_meant};
+ghost use Rattle.interval_analysis.specs.private.ShapeViews.{TakesOne, TakesTwo};
 ghost use Rattle.interval_analysis.specs.private.ExpressionViews.{NodeAnswer, OwnAnswer, OneAnswer, TwoAnswer, either_range};
 ghost use Rattle.interval_analysis.specs.private.StopViews.{range_list};
 
 use crate::expressions::{Operands, Part, Ranged, Stop};
 use crate::names::single;
 use crate::operations::{item_range, one_range, read, two_range};
-use crate::shapes::{One, Two};
 use interval_num::{Abs, ItemRanges, RangeCause, join};
-use pap_tree::Expr;
-use pap_types::{NodeKind, Outline, Typed, kind_of_call, kind_of_operator, kind_of_unary};
+use pap_tree::{Expr, One, Two};
+use pap_types::{NodeKind, Outline, Typed, kind_of_one, kind_of_two};
 use scaled_decimal::Dec;
 
 /// The answer of a node that has no operands, or whose operands leave its range to one of them.
@@ -132,15 +132,6 @@ pub(crate) fn one(op: One, operand: &Expr, a: Ranged) -> Result<Ranged, Stop>
     own_one(a.range, range, kind, a.next)
 }
 
-fn kind_of_one(op: One, kind: NodeKind) -> NodeKind
-    ensures { result ≡ kind_of_one (one_meant op) kind }
-{
-    match op {
-        One::Unary(op) => kind_of_unary(op, kind),
-        One::ValueOf | One::ValueOfScaled(_) | One::NewInt | One::SetScale(_, _) => NodeKind::Big,
-    }
-}
-
 /// An operation on two operands, of which `right` is the second.
 pub(crate) fn two(plan: &Typed, op: Two, right: &Expr, operands: Operands) -> Result<Ranged, Stop>
     requires room { operands.second.next + 1 < 2 ^ 32 }
@@ -153,16 +144,6 @@ pub(crate) fn two(plan: &Typed, op: Two, right: &Expr, operands: Operands) -> Re
     let kind = kind_of_two(op, first.kind, second.kind);
     let range = two_range(plan, op, kind, right, first.range, second.range);
     own_two(first.range, second.range, range, kind, second.next)
-}
-
-fn kind_of_two(op: Two, left: NodeKind, right: NodeKind) -> NodeKind
-    ensures { result ≡ kind_of_two (two_meant op) left right }
-{
-    match op {
-        Two::Operator(op) => kind_of_operator(op, left, right),
-        Two::Method(call) => kind_of_call(call),
-        Two::Divide(_, _) => NodeKind::Big,
-    }
 }
 
 /// A conditional with these parts.

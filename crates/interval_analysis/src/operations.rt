@@ -5,21 +5,21 @@ ghost use Rattle.scaled_decimal.specs.WholeNumbers.{int_bits, long_bits};
 ghost use Rattle.interval_num.specs.Intervals.{interval, IsWhole, IsWholeOfBits};
 ghost use Rattle.interval_num.specs.Rows.{whole_opposite_row};
 ghost use Rattle.pap_tree.specs.Term.{Term, term_of, unary};
+ghost use Rattle.pap_tree.specs.Shapes.{one_meant, two_meant};
 ghost use Rattle.pap_types.specs.Safety.{bits_of};
 ghost use Rattle.pap_types.specs.declared.kinds.NodeKind.{NodeKind};
 ghost use Rattle.interval_walk.specs.NodeRanges.{read_range, operator_range, one_range, two_range, method_range, shown_range, comparison_range, item_range};
 ghost use Rattle.pap_types.specs.private.ScopeViews.{scope_in};
-ghost use Rattle.interval_analysis.specs.private.ShapeViews.{TakesOne, TakesTwo, one_meant, two_meant};
+ghost use Rattle.interval_analysis.specs.private.ShapeViews.{TakesOne, TakesTwo};
 ghost use Rattle.interval_analysis.specs.private.OperationViews.{TakesWholes, TakesUnary, TakesShown, IsPlainShown, read_fitting};
 
 use crate::names::as_big;
-use crate::shapes::{One, Two};
 use interval_num::{
     Abs, ItemRanges, RangeCause, abs_abs, abs_add, abs_cmp, abs_div, abs_div_exact, abs_max,
     abs_min, abs_mul, abs_neg, abs_set_scale, abs_sub, int_add, int_div, int_mul, int_neg, int_rem,
     int_sub, long_add, long_div, long_mul, long_neg, long_rem, long_sub,
 };
-use pap_tree::{Binary, Call, Expr, Unary};
+use pap_tree::{Binary, Call, Expr, One, Two, Unary};
 use pap_types::{NodeKind, Typed};
 use scaled_decimal::{Dec, is_int, is_long};
 

@@ -1,10 +1,11 @@
 //! The kinds of an expression's nodes, and which operands each operation takes.
 ghost use Rattle.std.specs.Prelude.{◌≡◌, ◌&&◌};
+ghost use Rattle.pap_tree.specs.Shapes.{one_meant, two_meant};
 ghost use Rattle.pap_tree.specs.Term.{term_of, unary, method};
 ghost use Rattle.pap_types.specs.Kinds.{declared_kind, wider, kind_of_one, kind_of_operator, kind_of_two, is_int, is_big, is_truth, is_table, is_whole, is_convertible, has_few_places, is_factor_literal, takes_one, takes_operator, are_comparable, are_parts, suits};
 
 use crate::literals::FACTOR_PLACES;
-use pap_tree::{Binary, Call, Expr, Kind, Unary, is_kept_at};
+use pap_tree::{Binary, Call, Expr, Kind, One, Two, Unary, is_kept_at};
 use scaled_decimal::Dec;
 
 /// The kind of a node: what its value is, or how its name or literal may be used (docs/PROFILE.md, "Kinds").
@@ -219,5 +220,26 @@ pub(crate) fn suits(target: Kind, e: &Expr, kind: NodeKind) -> bool
         Kind::Big => kind.is_big(),
         Kind::Factor => is_factor_literal(e),
         Kind::Table => false,
+    }
+}
+
+/// The kind of what is done with an operand of a kind.
+pub fn kind_of_one(op: One, kind: NodeKind) -> NodeKind
+    ensures { result ≡ kind_of_one (one_meant op) kind }
+{
+    match op {
+        One::Unary(op) => kind_of_unary(op, kind),
+        One::ValueOf | One::ValueOfScaled(_) | One::NewInt | One::SetScale(_, _) => NodeKind::Big,
+    }
+}
+
+/// The same of two operands.
+pub fn kind_of_two(op: Two, left: NodeKind, right: NodeKind) -> NodeKind
+    ensures { result ≡ kind_of_two (two_meant op) left right }
+{
+    match op {
+        Two::Operator(op) => kind_of_operator(op, left, right),
+        Two::Method(call) => kind_of_call(call),
+        Two::Divide(_, _) => NodeKind::Big,
     }
 }

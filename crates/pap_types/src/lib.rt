@@ -19,7 +19,7 @@ mod typed;
 
 pub use fault::TypeFault;
 pub use fault_list::{type_fault_laws, type_faults};
-pub use kinds::{NodeKind, has_few_places, kind_of_call, kind_of_operator, kind_of_unary};
+pub use kinds::{NodeKind, has_few_places, kind_of_one, kind_of_two};
 pub use limits::LONGEST_CHAIN;
 pub use literals::{FACTOR_PLACES, at_factor_scale, first_value, items_of, shortened};
 pub use meaning::{bounded, one_outputs, typed_parts};

@@ -14,25 +14,7 @@ use Rattle.pap_types.specs.Operations.{of_one, of_two}
 use Rattle.pap_types.specs.Safety.{OneFits, TwoFits}
 use Rattle.checked_run.specs.declared.cause.FailureCause.{FailureCause}
 use Rattle.checked_run.specs.declared.cause.FailureCause.TheVariants.{Wide}
-use Rattle.checked_run.specs.declared.steps.One.{One}
-use Rattle.checked_run.specs.declared.steps.One.TheVariants as ones
-use Rattle.checked_run.specs.declared.steps.Two.{Two}
-use Rattle.checked_run.specs.declared.steps.Two.TheVariants as twos
 use Rattle.checked_run.specs.OperationFailures.{OneFails, TwoFails}
-
--- ---- what is done
-
-abbrev pub one_meant : One → meant.One
-one_meant (ones.Unary op) = meant.unary op
-one_meant ones.ValueOf = meant.value_of
-one_meant (ones.ValueOfScaled s) = meant.value_of_scaled s
-one_meant ones.NewInt = meant.new_big
-one_meant (ones.SetScale s mode) = meant.set_scale s mode
-
-abbrev pub two_meant : Two → meant.Two
-two_meant (twos.Operator op) = operator op
-two_meant (twos.Method m) = method m
-two_meant (twos.Divide s mode) = divide s mode
 
 -- ---- what it is done with
 

@@ -1,6 +1,6 @@
 use Rattle.std.proofs.Common.{sym, ◌∙◌}
 use Rattle.pap_tree.specs.Term.{term_of}
-use Rattle.checked_run.specs.private.OperationViews.{two_meant}
+use Rattle.pap_tree.specs.Shapes.{two_meant}
 use Rattle.checked_run.proofs.AnswerLemmas.{two_answer}
 use Rattle.checked_run.proofs.DivisorLemmas.{plain_two}
 use Rattle.checked_run.proofs.expressions.+evaluate.Goals as goal

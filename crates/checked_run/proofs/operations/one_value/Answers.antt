@@ -1,6 +1,7 @@
 use Rattle.std.proofs.Common.{sym, subst}
 use Rattle.pap_tree.specs.Term.{term_of}
-use Rattle.checked_run.specs.private.OperationViews.{one_meant, OneAnswer}
+use Rattle.pap_tree.specs.Shapes.{one_meant}
+use Rattle.checked_run.specs.private.OperationViews.{OneAnswer}
 use Rattle.checked_run.proofs.operations.one_value.Goals as goal
 
 pub returns-in-Unary : goal.returns-in-Unary

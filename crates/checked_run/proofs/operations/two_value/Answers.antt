@@ -1,5 +1,6 @@
 use Rattle.std.proofs.Common.{sym, subst}
-use Rattle.checked_run.specs.private.OperationViews.{two_meant, TwoAnswer}
+use Rattle.pap_tree.specs.Shapes.{two_meant}
+use Rattle.checked_run.specs.private.OperationViews.{TwoAnswer}
 use Rattle.checked_run.proofs.operations.two_value.Goals as goal
 
 pub returns-in-Method : goal.returns-in-Method

@@ -6,7 +6,8 @@ use Rattle.pap_tree.specs.Term.{term_of, item, one, two, operator}
 use Rattle.pap_types.specs.Kinds.{kind_of_two}
 use Rattle.pap_types.specs.private.ScopeViews.{scope_in}
 use Rattle.interval_analysis.specs.private.PlanViews.{ranges_after, branches_in}
-use Rattle.interval_analysis.specs.private.ShapeViews.{TakesTwo, one_meant, two_meant}
+use Rattle.pap_tree.specs.Shapes.{one_meant, two_meant}
+use Rattle.interval_analysis.specs.private.ShapeViews.{TakesTwo}
 use Rattle.interval_analysis.specs.private.ExpressionViews.{CanWalk, IsPartRanged, RangeAnswer, StopsAs, TwoAnswer, part_ranged}
 use Rattle.interval_analysis.specs.private.TestViews.{ComparesAs, TestAnswer, comparison, comparison_of, order_compared}
 use Rattle.interval_analysis.specs.private.Connectives.{FollowAnswer, IsFollowedBy, connected, directions_of}

@@ -1,13 +1,13 @@
 //! An expression by what its node does: a walk over it has five cases.
 ghost use Rattle.pap_tree.specs.Term.{term_of};
-ghost use Rattle.interval_analysis.specs.private.ShapeViews.{IsShape};
+ghost use Rattle.pap_tree.specs.Shapes.{IsShape};
 
-use pap_tree::{Binary, Call, Expr, Known, Name, Unary};
+use crate::{Binary, Call, Expr, Known, Name, Unary};
 use scaled_decimal::{Dec, Mode};
 
 /// What has no operand.
 #[derive(Clone, Copy)]
-pub(crate) enum Leaf<'a> {
+pub enum Leaf<'a> {
     Int(i32),
     Long(i64),
     Point(Dec),
@@ -18,7 +18,7 @@ pub(crate) enum Leaf<'a> {
 
 /// What is done with one operand.
 #[derive(Clone, Copy)]
-pub(crate) enum One {
+pub enum One {
     Unary(Unary),
     ValueOf,
     ValueOfScaled(u8),
@@ -28,7 +28,7 @@ pub(crate) enum One {
 
 /// What is done with two operands.
 #[derive(Clone, Copy)]
-pub(crate) enum Two {
+pub enum Two {
     Operator(Binary),
     Method(Call),
     Divide(u8, Mode),
@@ -36,7 +36,7 @@ pub(crate) enum Two {
 
 /// What the node of an expression does, with its operands.
 #[derive(Clone, Copy)]
-pub(crate) enum Shape<'a> {
+pub enum Shape<'a> {
     Leaf(Leaf<'a>),
     Item(&'a Name, &'a Expr),
     One(One, &'a Expr),
@@ -45,7 +45,7 @@ pub(crate) enum Shape<'a> {
 }
 
 /// The shape of an expression.
-pub(crate) fn shape_of(e: &Expr) -> Shape<'_>
+pub fn shape_of(e: &Expr) -> Shape<'_>
     ensures { IsShape (term_of e.now) result }
 {
     match e {
