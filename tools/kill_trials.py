@@ -19,12 +19,14 @@ from pathlib import Path
 PACKAGE = Path(__file__).resolve().parent.parent / "clients" / "python"
 sys.path[:0] = [str(PACKAGE), str(PACKAGE / "src")]
 
-from papledger import LedgerError, Refused, Year  # noqa: E402
+from papledger import Busy, LedgerError, Refused, Year  # noqa: E402
 from tests.support import are_kept, journal_lines, random_script, report_of, write_files  # noqa: E402
 
 LINES = 30
 # Seconds within which a year of so few lines is opened, and a line done.
 OPENING, LINE = 0.3, 0.01
+# Seconds after which a year is free again whose process was killed, on a busy machine.
+LETTING_GO = 10
 MOST_FAILED = 5
 # Side by side for each processor: a trial waits for the disk and for its processes most of the time.
 TRIALS = 4
@@ -105,7 +107,7 @@ class Trial:
 
     def check(self, start, done):
         """Opens the year after a kill, and gives the number of lines that are in it."""
-        with Year(f"{self.folder}/y", program=self.program) as year:
+        with self.freed() as year:
             report = year.report_text().decode("ascii")
         there = journal_lines(f"{self.folder}/y")
         in_flight = min(done + self.batch, len(self.lines))
@@ -115,6 +117,15 @@ class Trial:
         if report != report_of(self.program, there, self.folder):
             raise Lost(f"behind line {done} the report is not that of papcalc alone")
         return found
+
+    def freed(self):
+        """The year, once nothing of the killed process writes to it: a program that it is about to start has its lock until it runs."""
+        latest = time.monotonic() + LETTING_GO
+        while time.monotonic() < latest:
+            with contextlib.suppress(Busy):
+                return Year(f"{self.folder}/y", program=self.program)
+            time.sleep(LINE)
+        return Year(f"{self.folder}/y", program=self.program)
 
     def kept_before(self, count):
         """The accepted ones of the first so many lines."""
