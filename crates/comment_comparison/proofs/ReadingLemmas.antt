@@ -1,63 +1,44 @@
--- What a scan has read of a file's comments, one token after the other.
-use Rattle.std.proofs.Common.{◌≡◌, ◌⊎◌, inl, inr, ℕ, zero, suc, ◌+◌, ◌-◌, ◌≤◌, List, [], ◌∷◌, ◌++◌, length, take, drop, cond, refl, sym, ap, subst, ◌∙◌, arith, Option, Some, None, Bor}
-use Rattle.std.specs.Prelude.{MatchOption, option_map}
-use Rattle.std.specs.List.{sum_by, count_by}
-use Rattle.std.proofs.lemmas.List.{append-nil}
+-- The comments among a file's tokens, one token after the other.
+use Rattle.std.proofs.Common.{◌≡◌, ℕ, zero, suc, ◌+◌, ◌-◌, ◌≤◌, List, [], ◌∷◌, ◌++◌, length, take, drop, cond, refl, sym, ap, subst, ◌∙◌, arith}
+use Rattle.std.specs.List.{flat_map, sum_by, count_by}
+use Rattle.std.proofs.lemmas.List.{append-nil, append_assoc}
 use Rattle.std.proofs.lemmas.List.Sums.{sum_by-append, count_by-le-length}
-use Rattle.pap_reader.specs.Tags.{NoTag}
-use Rattle.pap_reader.specs.Skipped.{IsPassed, NotPassed, IsAfterProlog}
-use Rattle.pap_reader.specs.Tokens.{IsAlien}
+use Rattle.pap_reader.specs.Contents.{Token, remark, tagged, Tells, nothing, token, AreTokens}
+use Rattle.pap_reader.specs.Contents as contents
 use Rattle.plain_words.specs.Positions.{is_line_feed, line_of}
 use Rattle.plan_notes.specs.Lines.{line_text}
-use Rattle.plan_notes.specs.Contents.{comment_with}
-use Rattle.plan_notes.proofs.Laws.{passed_comment, passed_white}
-use Rattle.comment_comparison.specs.Comments.{LineComment, line_comment, HasPassed, prolog, white, comment, tag, HasComments}
-use Rattle.comment_comparison.specs.private.CommentScans.{IsTokenRead, NoTokenRead, comments_kept}
+use Rattle.comment_comparison.specs.Comments.{LineComment, line_comment, found_comment, HasPassed, prolog, white, comment, tag, HasComments}
 
--- ---- a comment
+-- ---- the comments among tokens
 
--- what is passed over is a comment where it has its marks, and else white space
-pub read_passed : (bytes rest : List ℕ) (o : Option (Bor (List ℕ))) → IsPassed bytes rest
-    → MatchOption o ((inside : List ℕ) → take (length bytes - length rest) bytes ≡ comment_with inside → ⊥)
-    (λ x. take (length bytes - length rest) bytes ≡ comment_with x.now)
-    → IsTokenRead bytes (option_map (λ (x : Bor (List ℕ)). x.now) o) rest
-read_passed bytes rest None p unmarked =
-    let first = passed_white bytes rest p unmarked in
-    inl (record { b = first.0; white = first.1; is = first.2 })
-read_passed bytes rest (Some x) p is = passed_comment bytes x.now rest p is
+abbrev pub comment_in : List ℕ → Token → List LineComment
+comment_in file (remark at inside) = line_comment (line_of file at) (line_text inside) ∷ []
+comment_in file (tagged t) = []
 
--- ---- the comments so far
+abbrev pub comments_in : List ℕ → List Token → List LineComment
+comments_in file ts = flat_map (comment_in file) ts
 
-pub passed_none : (file left : List ℕ) (comments : List LineComment) → IsAfterProlog file left → comments ≡ []
-    → HasPassed file comments left
-passed_none file left comments p empty = subst (λ cs. HasPassed file cs left) (sym empty) (prolog p)
+-- those before some tokens, and then those among them
+passed_told : (file : List ℕ) (n : ℕ) {bytes rest : List ℕ} {ts : List Token} (cs : List LineComment) → n ≡ length file
+    → HasPassed file cs bytes → Tells n bytes ts rest → HasPassed file (cs ++ comments_in file ts) rest
+passed_told file n {bytes} cs e h nothing = subst (λ z. HasPassed file z bytes) (sym (append-nil cs)) h
+passed_told file n cs e h (contents.white w t) = passed_told file n cs e (white h w) t
+passed_told file n {rest} cs e h (token {bytes} {ts} (remark at inside) i t) =
+    let there : length file - length bytes ≡ at = sym (i.0 ∙ ap (λ m. m - length bytes) e) in
+    let found : LineComment = found_comment file bytes inside in
+    subst (λ z. HasPassed file z rest)
+    (append_assoc cs (found ∷ []) (comments_in file ts)
+    ∙ ap (λ place. cs ++ (line_comment (line_of file place) (line_text inside) ∷ comments_in file ts)) there)
+    (passed_told file n (cs ++ (found ∷ [])) e (comment h i.1) t)
+passed_told file n cs e h (token (tagged u) i t) = passed_told file n cs e (tag u.tag h i.1) t
 
-pub token_passed : (file bytes rest : List ℕ) (comments comments' : List LineComment) (line : ℕ) (inside : Option (List ℕ))
-    → HasPassed file comments bytes → IsTokenRead bytes inside rest → line ≡ line_of file (length file - length bytes)
-    → comments' ≡ comments ++ comments_kept line inside → HasPassed file comments' rest
-token_passed file bytes rest comments comments' line (Some inside) h is at grown =
-    subst (λ cs. HasPassed file cs rest)
-    (sym (grown ∙ ap (λ n. comments ++ (line_comment n (line_text inside) ∷ [])) at)) (comment h is)
-token_passed file bytes rest comments comments' line None h (inl w) at grown =
-    subst (λ cs. HasPassed file cs rest) (sym (grown ∙ append-nil comments))
-    (white (subst (λ b. HasPassed file comments b) w.is h) w.white)
-token_passed file bytes rest comments comments' line None h (inr t) at grown =
-    subst (λ cs. HasPassed file cs rest) (sym (grown ∙ append-nil comments)) (tag t.tag h t.is)
-
-cons_nil : (b : ℕ) (x : List ℕ) → b ∷ x ≡ [] → ⊥
-cons_nil b x e = absurd cc
-
-ended : (left : List ℕ) → NotPassed left → NoTag left → (left ≡ []) ⊎ IsAlien left
-ended [] n m = inl refl
-ended (b ∷ left) n m = inr (record { some = cons_nil b left; no_tag = m; not_passed = n })
-
-pub comments_whole : (file left : List ℕ) (comments : List LineComment) → HasPassed file comments left → NoTokenRead left
-    → HasComments file comments
-comments_whole file left comments h n = record {
-  rest = left;
-  passed = h;
-  ended = ended left n.not_passed n.no_tag;
-}
+pub comments_whole : (file rest : List ℕ) (ts : List Token) (comments : List LineComment) → AreTokens file ts rest
+    → comments ≡ comments_in file ts → HasComments file comments
+comments_whole file rest ts comments h e = subst (HasComments file) (sym e) (record {
+  rest = rest;
+  passed = passed_told file (length file) [] refl (prolog h.read.prolog) h.read.tells;
+  ended = h.ended;
+})
 
 -- ---- lines
 

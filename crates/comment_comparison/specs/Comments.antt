@@ -6,7 +6,7 @@ use Rattle.pap_reader.specs.Skipped.{IsAfterProlog}
 use Rattle.pap_reader.specs.Tokens.{IsAlien}
 use Rattle.plain_words.specs.Positions.{line_of}
 use Rattle.plan_notes.specs.Lines.{line_text}
-use Rattle.plan_notes.specs.Contents.{IsComment}
+use Rattle.pap_reader.specs.Contents.{IsComment}
 
 -- a comment: the line on which it begins, from 1, and its text
 pub record LineComment : Type 0 where

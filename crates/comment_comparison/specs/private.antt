@@ -1,2 +1,1 @@
-pub mod CommentScans
 pub mod Tallies

@@ -1,72 +1,59 @@
-//! The comments of a plan's file, found in one pass.
-ghost use Rattle.std.specs.Prelude.{◌≡◌, ◌<◌, ◌≤◌, ◌++◌, length, count_by};
-ghost use Rattle.std.specs.Prelude.{IfOk, IfSome, OnOk, MatchOption};
-ghost use Rattle.std.specs.Option.{option_map};
+//! The comments of a plan's file, from its tokens.
+ghost use Rattle.std.specs.Prelude.{◌≡◌, ◌≤◌, ◌++◌, [], ◌∷◌, length, count_by, IfOk, OnOk};
+ghost use Rattle.pap_reader.specs.Contents.{AreRead};
 ghost use Rattle.plain_words.specs.Positions.{is_line_feed, line_of};
-ghost use Rattle.comment_comparison.specs.Comments.{HasComments};
-ghost use Rattle.comment_comparison.specs.private.CommentScans.{IsTokenRead, NoTokenRead, comments_kept};
+ghost use Rattle.plan_notes.specs.Lines.{line_text};
+ghost use Rattle.comment_comparison.specs.Comments.{line_comment, HasComments};
 
 use crate::comment::Comment;
-use pap_reader::{after_passed, after_prolog, read_tag};
-use plan_notes::{inside_comment, one_line};
+use pap_reader::{Token, Tokens, read_tokens};
+use plan_notes::one_line;
 use std::alloc::{AllocError, Global};
-
-/// What stands first in a text: a byte of white space, a comment or a tag.
-#[derive(Drop)]
-struct Token<'a> {
-    /// The text inside a comment.
-    inside: Option<&'a [u8]>,
-    /// What is left behind it.
-    rest: &'a [u8],
-}
 
 /// The comments of a plan's file in its order, up to its end or to a place where neither a tag nor a comment nor white space stands.
 /// Takes time linear in the file. Fails only for lack of memory.
 pub fn read_comments(alloc: Global, file: &[u8]) -> Result<Vec<Comment>, AllocError>
     ensures { IfOk result (λ comments. HasComments file.now comments.items) }
 {
+    let tokens = read_tokens(alloc, file)?;
+    comments_of(alloc, file, &tokens)
+}
+
+/// The same of a file whose tokens are read.
+fn comments_of(
+    alloc: Global,
+    file: &[u8],
+    tokens: &Tokens<'_>,
+) -> Result<Vec<Comment>, AllocError>
+    requires { AreRead file.now tokens.now }
+    ensures { IfOk result (λ comments. HasComments file.now comments.items) }
+{
     let mut comments = Vec::new(alloc);
-    let mut left = after_prolog(file);
-    let mut line = line_behind(file, 1, 0, file.len() - left.len());
-    while let Some(token) = read_token(alloc, left)? {
-        keep_comment(alloc, &mut comments, line, token.inside)?;
-        let at = file.len() - left.len();
-        left = token.rest;
-        line = line_behind(file, line, at, file.len() - left.len());
+    let mut counted = 0;
+    let mut line = 1;
+    for token in &tokens.items {
+        let Token::Comment { at, inside } = token else {
+            continue;
+        };
+        line = line_behind(file, line, counted, *at);
+        counted = *at;
+        keep_comment(alloc, &mut comments, line, inside)?;
     }
     Ok(comments)
 }
 
-/// What stands first. `None` where a text ends, or neither a tag nor a comment nor white space begins.
-fn read_token(alloc: Global, bytes: &[u8]) -> Result<Option<Token<'_>>, AllocError>
-    ensures read { IfOk result (λ o. MatchOption o (NoTokenRead bytes.now) (λ token.
-        IsTokenRead bytes.now (option_map (λ inside. inside.now) token.inside) token.rest.now)) }
-    ensures shorter { IfOk result (λ o. IfSome o (λ token.
-        length token.rest.now < length bytes.now)) }
-{
-    if let Some(rest) = after_passed(bytes) {
-        let inside = inside_comment(&bytes[..bytes.len() - rest.len()]);
-        return Ok(Some(Token { inside, rest }));
-    }
-    let Some((_tag, rest)) = read_tag(alloc, bytes)? else {
-        return Ok(None);
-    };
-    Ok(Some(Token { inside: None, rest }))
-}
-
-/// Appends the comment that begins on a line, where there is one.
+/// Appends the comment that begins on a line.
 fn keep_comment(
     alloc: Global,
     comments: &mut Vec<Comment>,
     line: usize,
-    inside: Option<&[u8]>,
+    inside: &[u8],
 ) -> Result<(), AllocError>
     ensures { OnOk result (comments.new.items ≡ comments.old.items
-        ++ comments_kept line (option_map (λ inside. inside.now) inside.entry)) }
+        ++ (line_comment line (line_text inside.now) ∷ [])) }
 {
-    if let Some(inside) = inside {
-        comments.push(Comment::new(line, one_line(alloc, inside)?))?;
-    }
+    let text = one_line(alloc, inside)?;
+    comments.push(Comment::new(line, text))?;
     Ok(())
 }
 

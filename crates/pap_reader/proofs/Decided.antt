@@ -63,7 +63,7 @@ dec_past mark (b ∷ bytes) = elim (dec_prefix mark (b ∷ bytes)) [
   ]
 ]
 
-past_shorter : {mark bytes rest : List ℕ} → Past mark bytes rest → length rest ≤ length bytes
+pub past_shorter : {mark bytes rest : List ℕ} → Past mark bytes rest → length rest ≤ length bytes
 past_shorter (here {mark} {rest}) = let l = length-append mark rest in omega arith
 past_shorter (later h p) = let l = past_shorter p in omega arith
 
@@ -234,7 +234,7 @@ dec_attribute bytes = elim (dec_front bytes) [
   | inl f ↦ elim (dec_quoted (length f.text) f.quote f.text (omega arith) f.quotes) [
     | inl v ↦
         let a = an_attribute bytes (take_while is_inner (drop_while is_white bytes)) f.text v.0 v.1 f.quote f refl refl refl v.2 (quoted_shorter v.2) in
-        inl (record { name = take_while is_inner (drop_while is_white bytes); written = length f.text - length v.1 - 1; value = v.0 }, v.1, a)
+        inl (record { name = take_while is_inner (drop_while is_white bytes); quote = f.quote; text = f.text; written = length f.text - length v.1 - 1; value = v.0 }, v.1, a)
     | inr n ↦ inr (no_attribute bytes f.text f.quote f refl refl n)
   ]
 ]

@@ -162,10 +162,12 @@ shorter_value : {q : ℕ} {bytes value rest : List ℕ} → Quoted q bytes value
 shorter_value h le = omega arith
 
 pub an_attribute : (bytes name text value rest : List ℕ) (q : ℕ) (f : BeforeValue bytes) → name ≡ take_while is_inner (drop_while is_white bytes) → q ≡ f.quote → text ≡ f.text → Quoted q text value rest → length rest < length text
-    → IsAttribute bytes (record { name = name; written = length text - length rest - 1; value = value }) rest
+    → IsAttribute bytes (record { name = name; quote = q; text = text; written = length text - length rest - 1; value = value }) rest
 an_attribute bytes name text value rest q f i j k h lt = record {
   front = f;
   name = i;
+  quote = j;
+  text = k;
   quoted = subst (λ z. Quoted f.quote z value rest) k (subst (λ z. Quoted z text value rest) j h);
   written = (let l = ap length k in omega arith);
 }
@@ -180,7 +182,9 @@ same_attribute bytes a b x y g h =
     let s = same_front bytes g.front h.front in
     let v = same_value g.front.quote g.front.quotes g.quoted b.value y (subst (λ z. Quoted g.front.quote z b.value y) (sym s.1) (subst (λ z. Quoted z h.front.text b.value y) (sym s.0) h.quoted)) in
     let w : a.written ≡ b.written = (let l = ap length s.1 in let m = ap length v.rest in let n = g.written in let o = h.written in omega arith) in
-    ((λ i. record { name = (g.name ∙ sym h.name) i; written = w i; value = v.value i }), v.rest)
+    let q : a.quote ≡ b.quote = g.quote ∙ s.0 ∙ sym h.quote in
+    let t : a.text ≡ b.text = g.text ∙ s.1 ∙ sym h.text in
+    ((λ i. record { name = (g.name ∙ sym h.name) i; quote = q i; text = t i; written = w i; value = v.value i }), v.rest)
 
 -- ---- what follows a tag's name
 

@@ -75,23 +75,6 @@ pub unpassed : {bytes rest : List ℕ} → IsPassed bytes rest → WhiteFirst by
 unpassed (white {b} h) = inl (record { b = b; is = refl; white = h })
 unpassed (comment {bytes} p) = inr (record { inside = bytes; is = refl; past = p })
 
-pub passed_white : (bytes rest : List ℕ) (b : ℕ) → bytes ≡ b ∷ rest → is_white b ≡ true → IsPassed bytes rest
-passed_white bytes rest b e h = subst (λ z. IsPassed z rest) (sym e) (white h)
-
-passed_comment : (bytes inside rest : List ℕ) → bytes ≡ codes "<!--" ++ inside → Past (codes "-->") inside rest → IsPassed bytes rest
-passed_comment bytes inside rest e p = subst (λ z. IsPassed z rest) (sym e) (comment p)
-
-pub no_comment : (bytes inside tail rest : List ℕ) (b : ℕ) → bytes ≡ b ∷ tail → is_white b ≡ false → bytes ≡ codes "<!--" ++ inside → ((r : List ℕ) → Past (codes "-->") inside r → ⊥) → IsPassed bytes rest → ⊥
-no_comment bytes inside tail rest b e w f h p = elim (unpassed p) [
-  | inl g ↦ both_ways (is_white b) (ap is_white (head_of b g.b tail rest (sym e ∙ g.is)) ∙ g.white) w
-  | inr g ↦ h rest (subst (λ z. Past (codes "-->") z rest) (append_same (codes "<!--") g.inside inside (sym g.is ∙ f)) g.past)
-]
-
-pub passed_by : (bytes inside tail : List ℕ) (b : ℕ) (o : Option (Bor (List ℕ))) → bytes ≡ b ∷ tail → is_white b ≡ false → bytes ≡ codes "<!--" ++ inside
-    → MatchOption o ((r : List ℕ) → Past (codes "-->") inside r → ⊥) (λ r. Past (codes "-->") inside r.now) → MatchOption o ((r : List ℕ) → IsPassed bytes r → ⊥) (λ r. IsPassed bytes r.now)
-passed_by bytes inside tail b None e w f h = λ rest p. no_comment bytes inside tail rest b e w f h p
-passed_by bytes inside tail b (Some r) e w f h = passed_comment bytes inside r.now f h
-
 -- ---- tags
 
 abbrev pub a_tag : Form → List ℕ → List Attribute → Tag

@@ -7,8 +7,7 @@ use Rattle.pap_reader.specs.declared.fault.ReadFault.TheVariants as faults
 use Rattle.pap_reader.specs.declared.reader.Reader.{Reader}
 use Rattle.pap_reader.specs.declared.elements.Elements.{Elements}
 use Rattle.pap_reader.specs.private.NestingDecisions.{Open, start, is_ended}
-use Rattle.pap_reader.specs.Tags.{Tag, IsTag}
-use Rattle.pap_reader.specs.Tokens.{PlacedTag, Leads, Reads, placed}
+use Rattle.pap_reader.specs.Tokens.{PlacedTag, Leads, Reads, IsAlien, placed}
 use Rattle.pap_reader.specs.Marks.{shapes, marks_of}
 use Rattle.pap_reader.specs.Trees.{ElementTree, tree_of}
 use Rattle.pap_reader.specs.Limits.{most, tested, IsFirstOver}
@@ -16,54 +15,43 @@ use Rattle.pap_reader.specs.Elements.{HasTree, IsElements, StopsAt, IsRefusedTex
 use Rattle.pap_reader.specs.Faults.{Earns}
 use Rattle.pap_reader.specs.private.VerdictDecisions.{Work, begun, built, builds, verdict, ending}
 use Rattle.pap_reader.specs.private.ReaderViews.{Stands, Refuses, Judges, Gives}
-use Rattle.pap_reader.specs.private.Views as views
 use Rattle.pap_reader.specs.Tokens as tokens
-use Rattle.pap_reader.specs.Skipped.{IsPassed, IsAfterMark, IsAfterDeclaration}
-use Rattle.pap_reader.specs.private.Views.{Passes}
 use Rattle.pap_reader.proofs.Fronts.{document_ended}
+use Rattle.pap_reader.proofs.TokenLemmas.{Reached}
 use Rattle.pap_reader.proofs.Exact.{Held, Judged, judged, held_more, held_start, shapes-one, tree_here}
 
 -- ---- from tag to tag
-
-pub leads_passed : {n : ℕ} {bytes next rest : List ℕ} {ts : List PlacedTag} → Passes bytes next → Leads n next ts rest → Leads n bytes ts rest
-leads_passed views.none h = h
-leads_passed (views.one p q) h = tokens.passed p (leads_passed q h)
 
 pub leads_more : {n : ℕ} {bytes left rest : List ℕ} {ts us : List PlacedTag} → Leads n bytes ts left → Leads n left us rest → Leads n bytes (ts ++ us) rest
 leads_more tokens.nothing k = k
 leads_more (tokens.passed p h) k = tokens.passed p (leads_more h k)
 leads_more (tokens.tag t i h) k = tokens.tag t i (leads_more h k)
 
--- what the loop knows
-pub record Going (x : Reader) (bytes left : List ℕ) : Type 0 where
-  pub before : List PlacedTag
-  pub os : List Open
-  pub ws : List Work
-  pub read : Reads bytes before left
-  pub held : Held before os ws
-  pub stands : Stands x (shapes before) os ws
-
 pub reads_more : {bytes left rest : List ℕ} {ts us : List PlacedTag} → Reads bytes ts left → Leads (length bytes) left us rest → Reads bytes (ts ++ us) rest
 reads_more r h = record { unmarked = r.unmarked; mark = r.mark; body = r.body; declaration = r.declaration; leads = leads_more r.leads h }
 
-pub going_start : (x : Reader) (bytes unmarked body left : List ℕ) → Stands x [] start begun → IsAfterMark bytes unmarked → IsAfterDeclaration unmarked body → Passes body left → Going x bytes left
-going_start x bytes unmarked body left h m d p = record { before = []; os = start; ws = begun; read = record { unmarked = unmarked; mark = m; body = body; declaration = d; leads = leads_passed p tokens.nothing }; held = held_start; stands = h }
+-- what the loop knows behind some tags
+pub record Going (x : Reader) (before : List PlacedTag) : Type 0 where
+  pub os : List Open
+  pub ws : List Work
+  pub held : Held before os ws
+  pub stands : Stands x (shapes before) os ws
+
+pub going_start : (x : Reader) → Stands x [] start begun → Going x []
+going_start x h = record { os = start; ws = begun; held = held_start; stands = h }
 
 taken_ok : (before : List PlacedTag) (os next : List Open) (t : PlacedTag) → Judged before t (verdict (shapes before) os t) → verdict (shapes before) os t ≡ Ok next → Judged before t (Ok next)
 taken_ok before os next t h e = subst (Judged before t) e h
 
-pub going_more : (x y : Reader) (bytes left next rest : List ℕ) (t : Tag) (u : Result (Unit {0}) ReadFault) (o : Unit {0}) (g : Going x bytes left) → IsTag left t next → Passes next rest → u ≡ Ok o
-    → Judges (length bytes - length left) (shapes g.before) g.os g.ws (marks_of t) y u → Going y bytes rest
-going_more x y bytes left next rest t u o g i p e k =
-    let s = placed (length bytes) left t in
-    let j = subst (Judges (length bytes - length left) (shapes g.before) g.os g.ws (marks_of t) y) e k in
+pub going_more : (x y : Reader) (before : List PlacedTag) (t : PlacedTag) (u : Result (Unit {0}) ReadFault) (o : Unit {0}) (g : Going x before) → u ≡ Ok o
+    → Judges t.at (shapes before) g.os g.ws (marks_of t.tag) y u → Going y (before ++ (t ∷ []))
+going_more x y before t u o g e k =
+    let j = subst (Judges t.at (shapes before) g.os g.ws (marks_of t.tag) y) e k in
     record {
-      before = g.before ++ (s ∷ []);
       os = j.0;
-      ws = builds g.ws (marks_of t);
-      read = reads_more g.read (tokens.tag t i (leads_passed p tokens.nothing));
-      held = held_more g.before s g.os j.0 g.ws g.held (taken_ok g.before g.os j.0 s (judged g.before s g.os g.held.reached) j.1);
-      stands = subst (λ ss. Stands y ss j.0 (builds g.ws (marks_of t))) (sym (shapes-one g.before s)) j.2;
+      ws = builds g.ws (marks_of t.tag);
+      held = held_more before t g.os j.0 g.ws g.held (taken_ok before g.os j.0 t (judged before t g.os g.held.reached) j.1);
+      stands = subst (λ ss. Stands y ss j.0 (builds g.ws (marks_of t.tag))) (sym (shapes-one before t)) j.2;
     }
 
 -- ---- refusals
@@ -108,21 +96,28 @@ refused_by before os t (faults.Many w) h k = inr (earned before os t (faults.Man
 refused_by before os t faults.Memory h k = inl refl
 
 -- the tag was refused
-pub wrong_tag : (x y : Reader) (bytes left next : List ℕ) (t : Tag) (u : Result (Unit {0}) ReadFault) (f : ReadFault) (g : Going x bytes left) → length bytes ≤ most which.Bytes → IsTag left t next → u ≡ Err f
-    → Judges (length bytes - length left) (shapes g.before) g.os g.ws (marks_of t) y u → IsFaultOrMemory bytes f
-wrong_tag x y bytes left next t u f g le i e k =
-    let s = placed (length bytes) left t in
-    let j : Refuses f (verdict (shapes g.before) g.os s) = subst (Judges (length bytes - length left) (shapes g.before) g.os g.ws (marks_of t) y) e k in
-    elim (refused_by g.before g.os s f (judged g.before s g.os g.held.reached) j) [
+pub wrong_tag : (x y : Reader) (bytes : List ℕ) (before : List PlacedTag) (t : PlacedTag) (u : Result (Unit {0}) ReadFault) (f : ReadFault) (g : Going x before) → length bytes ≤ most which.Bytes → Reached bytes before t → u ≡ Err f
+    → Judges t.at (shapes before) g.os g.ws (marks_of t.tag) y u → IsFaultOrMemory bytes f
+wrong_tag x y bytes before t u f g le r e k =
+    let j : Refuses f (verdict (shapes before) g.os t) = subst (Judges t.at (shapes before) g.os g.ws (marks_of t.tag) y) e k in
+    let here : t ≡ placed (length bytes) r.here t.tag = λ i. record { at = r.at i; tag = t.tag } in
+    elim (refused_by before g.os t f (judged before t g.os g.held.reached) j) [
       | inl m ↦ subst (IsFaultOrMemory bytes) (sym m) tt
-      | inr m ↦ wrong bytes f le (record { before = g.before; rest = left; read = g.read; clean = g.held.clean; stop = inr (inr (t, next, i, m)) })
+      | inr m ↦ wrong bytes f le (record {
+        before = before;
+        rest = r.here;
+        read = r.read;
+        clean = g.held.clean;
+        stop = inr (inr (t.tag, r.next, r.is, subst (λ z. Earns before z f) here m));
+      })
     ]
 
 -- no token begins here
-pub wrong_text : (x : Reader) (bytes left : List ℕ) → Going x bytes left → length bytes ≤ most which.Bytes → (left ≡ [] → ⊥) → ((t : Tag) (rest : List ℕ) → IsTag left t rest → ⊥) → ((rest : List ℕ) → IsPassed left rest → ⊥)
+pub wrong_text : (x : Reader) (bytes left : List ℕ) (before : List PlacedTag) → Going x before → length bytes ≤ most which.Bytes → Reads bytes before left → (left ≡ [] → ⊥) → (left ≡ []) ⊎ IsAlien left
     → IsFaultOrMemory bytes (faults.Text (length bytes - length left))
-wrong_text x bytes left g le s n p =
-    (le, record { before = g.before; rest = left; read = g.read; clean = g.held.clean; stop = inr (inl (record { some = s; no_tag = n; not_passed = p }, refl)) })
+wrong_text x bytes left before g le r s (inl e) = absurd (s e)
+wrong_text x bytes left before g le r s (inr a) =
+    (le, record { before = before; rest = left; read = r; clean = g.held.clean; stop = inr (inl (a, refl)) })
 
 -- ---- the end
 
@@ -140,11 +135,11 @@ ended_ok : (n : ℕ) (os : List Open) (ws : List Work) (b : Bool) (x : ElementTr
 ended_ok n os ws true x e k = (e, some_tree (built ws) x k)
 ended_ok n os ws false x e k = absurd (no_ok x (faults.Element n) k)
 
-pub read_whole : (x : Reader) (bytes left : List ℕ) (e : Elements) (g : Going x bytes left) → length bytes ≤ most which.Bytes → left ≡ [] → Gives (Ok e) (ending (length bytes) g.os g.ws) → IsElements bytes (tree_of e)
-read_whole x bytes left e g le n k =
+pub read_whole : (x : Reader) (bytes left : List ℕ) (before : List PlacedTag) (e : Elements) (g : Going x before) → length bytes ≤ most which.Bytes → Reads bytes before left → left ≡ [] → Gives (Ok e) (ending (length bytes) g.os g.ws) → IsElements bytes (tree_of e)
+read_whole x bytes left before e g le r n k =
     let a = ended_ok (length bytes) g.os g.ws (is_ended g.os) (tree_of e) refl k in
     record {
-      text = record { tags = g.before; read = subst (Reads bytes g.before) n g.read; tree = subst (HasTree g.before) a.1 (tree_here g.before g.os g.ws g.held a.0) };
+      text = record { tags = before; read = subst (Reads bytes before) n r; tree = subst (HasTree before) a.1 (tree_here before g.os g.ws g.held a.0) };
       short = le;
       few = g.held.few;
     }
@@ -169,19 +164,19 @@ refused_end n os ws false (faults.Element at) e k = inr (sym (fault_is n at k), 
 refused_end n os ws false (faults.Attribute at) e k = absurd cc
 refused_end n os ws false (faults.Many w) e k = absurd cc
 
-pub wrong_end : (x : Reader) (bytes left : List ℕ) (f : ReadFault) (g : Going x bytes left) → length bytes ≤ most which.Bytes → left ≡ [] → Gives (Err f) (ending (length bytes) g.os g.ws) → IsFaultOrMemory bytes f
-wrong_end x bytes left f g le n k = elim (refused_end (length bytes) g.os g.ws (is_ended g.os) f refl k) [
+pub wrong_end : (x : Reader) (bytes left : List ℕ) (before : List PlacedTag) (f : ReadFault) (g : Going x before) → length bytes ≤ most which.Bytes → Reads bytes before left → left ≡ [] → Gives (Err f) (ending (length bytes) g.os g.ws) → IsFaultOrMemory bytes f
+wrong_end x bytes left before f g le r n k = elim (refused_end (length bytes) g.os g.ws (is_ended g.os) f refl k) [
   | inl m ↦ subst (IsFaultOrMemory bytes) (sym m) tt
   | inr m ↦ wrong bytes f le (record {
-    before = g.before;
+    before = before;
     rest = left;
-    read = g.read;
+    read = r;
     clean = g.held.clean;
-    stop = inl (n, m.0, λ d. both_ways (is_ended g.os) (document_ended (shapes g.before) g.os g.held.reached d) m.1);
+    stop = inl (n, m.0, λ d. both_ways (is_ended g.os) (document_ended (shapes before) g.os g.held.reached d) m.1);
   })
 ]
 
-pub ends : (x : Reader) (bytes left : List ℕ) (u : Result Elements ReadFault) (g : Going x bytes left) → length bytes ≤ most which.Bytes → left ≡ [] → Gives u (ending (length bytes) g.os g.ws)
+pub ends : (x : Reader) (bytes left : List ℕ) (before : List PlacedTag) (u : Result Elements ReadFault) (g : Going x before) → length bytes ≤ most which.Bytes → Reads bytes before left → left ≡ [] → Gives u (ending (length bytes) g.os g.ws)
     → IfOk u (λ e. IsElements bytes (tree_of e)) × IfErr u (λ f. IsFaultOrMemory bytes f)
-ends x bytes left (Ok e) g le n k = (read_whole x bytes left e g le n k, tt)
-ends x bytes left (Err f) g le n k = (tt, wrong_end x bytes left f g le n k)
+ends x bytes left before (Ok e) g le r n k = (read_whole x bytes left before e g le r n k, tt)
+ends x bytes left before (Err f) g le r n k = (tt, wrong_end x bytes left before f g le r n k)

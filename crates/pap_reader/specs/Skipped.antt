@@ -17,10 +17,6 @@ pub data IsPassed : List ℕ → List ℕ → Type 0 where
   white : {b : ℕ} {rest : List ℕ} → is_white b ≡ true → IsPassed (b ∷ rest) rest
   comment : {bytes rest : List ℕ} → Past (codes "-->") bytes rest → IsPassed (codes "<!--" ++ bytes) rest
 
--- There is neither white space nor a whole comment here.
-abbrev pub NotPassed : List ℕ → Type 0
-NotPassed bytes = (rest : List ℕ) → IsPassed bytes rest → ⊥
-
 -- ---- before the tokens
 
 -- the byte order mark of UTF-8

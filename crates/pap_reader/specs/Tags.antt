@@ -11,9 +11,12 @@ use Rattle.std.specs.Char.{is_ascii_alphabetic}
 use Rattle.std.specs.List.{take_while}
 use Rattle.pap_reader.specs.Values.{Quoted, is_quote}
 
--- an attribute: its name, how many bytes stand between its quotes, and the text that they stand for
+-- an attribute: its name, its quote, what stands from the first byte of its value on, how many bytes stand between its quotes,
+-- and the text that they stand for
 pub record Attribute : Type 0 where
   pub name : List ℕ
+  pub quote : ℕ
+  pub text : List ℕ
   pub written : ℕ
   pub value : List ℕ
 
@@ -45,6 +48,8 @@ IsFrontOf bytes name quote text =
 pub record IsAttribute (bytes : List ℕ) (a : Attribute) (rest : List ℕ) : Type 0 where
   pub front : BeforeValue bytes
   pub name : a.name ≡ take_while is_inner (drop_while is_white bytes)
+  pub quote : a.quote ≡ front.quote
+  pub text : a.text ≡ front.text
   pub quoted : Quoted front.quote front.text a.value rest
   pub written : a.written + 1 + length rest ≡ length front.text
 
@@ -72,7 +77,13 @@ NoTag bytes = (t : Tag) (rest : List ℕ) → IsTag bytes t rest → ⊥
 
 -- the attribute that a written one stands for
 abbrev pub attribute_of : WrittenAttribute → Attribute
-attribute_of a = record { name = a.name.now; written = a.written; value = a.value.items }
+attribute_of a = record {
+  name = a.name.now;
+  quote = a.quote;
+  text = a.text.now;
+  written = a.written;
+  value = a.value.items;
+}
 
 -- the attributes that written ones stand for
 abbrev pub attributes_of : List WrittenAttribute → List Attribute

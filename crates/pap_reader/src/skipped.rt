@@ -1,11 +1,9 @@
-//! What is passed over between the tags, and before them.
+//! What is passed over before the tokens.
 
 ghost use Rattle.std.specs.Prelude.{◌<◌, ◌≤◌, length, MatchOption, IfSome};
-ghost use Rattle.pap_reader.specs.Skipped.{Past, IsPassed, IsAfterMark, IsAfterDeclaration, NoPast, NotPassed, IsAfterProlog};
-ghost use Rattle.pap_reader.specs.private.Views.{Passes};
+ghost use Rattle.pap_reader.specs.Skipped.{Past, IsAfterMark, IsAfterDeclaration, NoPast, IsAfterProlog};
 
 use crate::bytes::{after_text, split};
-use pap_tree::is_white;
 
 /// What is left after the first place where the mark stands.
 pub fn past_mark<'a>(bytes: &'a [u8], mark: &[u8]) -> Option<&'a [u8]>
@@ -23,31 +21,6 @@ pub fn past_mark<'a>(bytes: &'a [u8], mark: &[u8]) -> Option<&'a [u8]>
         left = next;
     }
     None
-}
-
-/// What is left after the byte of white space or the comment that comes first.
-pub fn after_passed(bytes: &[u8]) -> Option<&[u8]>
-    ensures found { MatchOption result (NotPassed bytes.now) (λ rest. IsPassed bytes.now rest.now) }
-    ensures shorter { IfSome result (λ rest. length rest.now < length bytes.now) }
-{
-    let (first, rest) = split(bytes)?;
-    if is_white(first) {
-        return Some(rest);
-    }
-    past_mark(after_text(bytes, b"<!--")?, b"-->")
-}
-
-/// What is left after white space and comments.
-pub(crate) fn skip(bytes: &[u8]) -> &[u8]
-    ensures passed { Passes bytes.now result.now }
-    ensures black { NotPassed result.now }
-    ensures shorter { length result.now ≤ length bytes.now }
-{
-    let mut left = bytes;
-    while let Some(rest) = after_passed(left) {
-        left = rest;
-    }
-    left
 }
 
 /// What is left after a byte order mark, if one comes first.

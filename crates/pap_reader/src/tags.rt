@@ -28,6 +28,10 @@ pub enum Form {
 pub struct Attribute<'a> {
     /// What stands before the `=`.
     pub name: &'a [u8],
+    /// The quote round the value.
+    pub quote: u8,
+    /// What stands in the file from the first byte of the value on: so many bytes before the file's end is its place.
+    pub text: &'a [u8],
     /// How many bytes stand between the quotes.
     pub written: usize,
     /// The text that they stand for.
@@ -108,6 +112,8 @@ fn read_attribute(alloc: Global, bytes: &[u8]) -> Result<Option<(Attribute<'_>, 
     Ok(Some((
         Attribute {
             name,
+            quote,
+            text,
             written,
             value,
         },

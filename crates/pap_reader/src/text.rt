@@ -1,6 +1,7 @@
 //! Plans from the bytes of their files.
 
-ghost use Rattle.std.specs.Prelude.{◌≡◌, ◌⊎◌, ℕ, List, IfOk, IfErr};
+ghost use Rattle.std.specs.Prelude.{◌≡◌, ◌⊎◌, ℕ, List, length, map, IfOk, IfErr};
+ghost use Rattle.pap_reader.specs.Contents.{Token as FileToken, AreTokens, AreRead, tags_of, token_byte, StandInOrder};
 ghost use Rattle.pap_reader.specs.Trees.{ElementTree, tree_of};
 ghost use Rattle.pap_reader.specs.Elements.{IsElementText, IsElements, IsFault, IsFaultOrMemory};
 ghost use Rattle.pap_reader.specs.TreeLimits.{IsSmallTree};
@@ -9,8 +10,7 @@ ghost use Rattle.pap_reader.specs.declared.fault.ReadFault.{ReadFault as Fault};
 use crate::elements::Elements;
 use crate::fault::{ReadFault, Which};
 use crate::reader::Reader;
-use crate::skipped::{after_prolog, skip};
-use crate::tags::read_tag;
+use crate::tokens::{Token, Tokens, read_tokens};
 use std::alloc::Global;
 
 /// The most bytes of a plan's file.
@@ -24,21 +24,32 @@ pub fn read_elements(alloc: Global, bytes: &[u8]) -> Result<Elements, ReadFault>
     // The bytes have this fault, or memory ran out.
     ensures refused { IfErr result (λ f. IsFaultOrMemory bytes.now f) }
 {
-    let end = bytes.len();
+    let tokens = read_tokens(alloc, bytes)?;
+    elements_of(alloc, bytes, &tokens)
+}
+
+/// The same of a file whose tokens are read.
+pub fn elements_of(alloc: Global, file: &[u8], tokens: &Tokens<'_>) -> Result<Elements, ReadFault>
+    requires { AreRead file.now tokens.now }
+    ensures read { IfOk result (λ e. IsElements file.now (tree_of e)) }
+    ensures refused { IfErr result (λ f. IsFaultOrMemory file.now f) }
+{
+    let end = file.len();
     if end > LONGEST_PLAN {
         return Err(ReadFault::Many {
             which: Which::Bytes,
         });
     }
     let mut reader = Reader::new(alloc);
-    let mut left = skip(after_prolog(bytes));
-    while let Some((tag, rest)) = read_tag(alloc, left)? {
-        reader.take(&tag, end - left.len())?;
-        left = skip(rest);
+    for token in &tokens.items {
+        let Token::Tag { at, tag } = token else {
+            continue;
+        };
+        reader.take(tag, *at)?;
     }
-    if !left.is_empty() {
+    if !tokens.left.is_empty() {
         return Err(ReadFault::Text {
-            at: end - left.len(),
+            at: end.saturating_sub(tokens.left.len()),
         });
     }
     reader.finish(end)
@@ -55,4 +66,14 @@ pub fn element_laws()
     ensures always_one { (bytes : List ℕ)
         → ((x : ElementTree) × IsElements bytes x) ⊎ ((f : Fault) × IsFault bytes f) }
     ensures small_tree { (bytes : List ℕ) (x : ElementTree) → IsElements bytes x → IsSmallTree x }
+{}
+
+/// The laws of a file's tokens: its tags stand at one list of places, with one list of attributes, and its tokens stand in its
+/// order, each behind the one before.
+pub fn token_laws()
+    ensures one_list { (file x y : List ℕ) (ts us : List FileToken)
+        → AreTokens file ts x → AreTokens file us y
+        → tags_of ts ≡ tags_of us }
+    ensures in_order { (file rest : List ℕ) (ts : List FileToken) → AreTokens file ts rest
+        → StandInOrder 0 (map token_byte ts) (length file) }
 {}

@@ -205,10 +205,12 @@ behind_start start = record { leads = λ q text h. h; only = λ q text end h u. 
 
 an_attribute : (bytes name text value rest : List ℕ) (q : ℕ) → (f : IsFrontOf bytes name q text) → Quoted q text value rest
     → length (q ∷ rest) ≤ length text
-    → IsAttribute bytes (record { name = name; written = length text - length (q ∷ rest); value = value }) rest
+    → IsAttribute bytes (record { name = name; quote = q; text = text; written = length text - length (q ∷ rest); value = value }) rest
 an_attribute bytes name text value rest q f h within = record {
   front = f.0;
   name = f.1;
+  quote = f.2;
+  text = f.3;
   quoted = subst (λ z. Quoted f.0.quote z value rest) f.3 (subst (λ z. Quoted z text value rest) f.2 h);
   written = (let l = ap length f.3 in omega arith);
 }

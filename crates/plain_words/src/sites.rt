@@ -9,30 +9,39 @@ use crate::ordinal::Ordinal;
 use crate::place::TextFile;
 use crate::quotes::write_quoted;
 use crate::statements::{statement_in, statement_text};
-use pap_reader::{Elements, RawDeclared, RawStmt, ReadFault, read_elements};
+use pap_reader::{Elements, RawDeclared, RawStmt, ReadFault, Tokens, elements_of, read_tokens};
 use pap_tree::Name;
-use plan_notes::{Element, Notes, Starts, Walk, attribute_byte, read_notes};
+use plan_notes::{Element, Notes, Starts, Walk, notes_of, value_byte};
 use std::alloc::{AllocError, Global};
 
 /// What is read of a plan's file.
 #[derive(Drop)]
-pub(crate) struct Outline {
+pub(crate) struct Outline<'a> {
+    tokens: Tokens<'a>,
     elements: Elements,
     notes: Notes,
 }
 
-impl Outline {
+impl<'a> Outline<'a> {
     /// What is read of a plan's file. `None` where it isn't read.
-    pub(crate) fn read(alloc: Global, plan: TextFile<'_>) -> Result<Option<Outline>, AllocError>
+    pub(crate) fn read(
+        alloc: Global,
+        plan: TextFile<'a>,
+    ) -> Result<Option<Outline<'a>>, AllocError>
         ensures read { IfOk result (λ read. IfSome read
             (λ outline. IsElements plan.entry.bytes.now (tree_of outline.elements))) }
         ensures unread { IfOk result (λ read. IfNone read
             ((tree : ElementTree) → ¬ (IsElements plan.entry.bytes.now tree))) }
     {
-        match read_elements(alloc, plan.bytes) {
+        let tokens = read_tokens(alloc, plan.bytes)?;
+        match elements_of(alloc, plan.bytes, &tokens) {
             Ok(elements) => {
-                let notes = read_notes(alloc, plan.bytes)?;
-                Ok(Some(Outline { elements, notes }))
+                let notes = notes_of(alloc, &tokens)?;
+                Ok(Some(Outline {
+                    tokens,
+                    elements,
+                    notes,
+                }))
             }
             Err(ReadFault::Memory) => Err(AllocError),
             Err(_) => Ok(None),
@@ -40,21 +49,23 @@ impl Outline {
     }
 
     /// The file with what is read of it.
-    pub(crate) fn source<'a>(&'a self, file: TextFile<'a>) -> Source<'a>
+    pub(crate) fn source<'s>(&'s self, file: TextFile<'s>) -> Source<'s>
         ensures { result.elements.now ≡ self.now.elements }
     {
         Source {
             file,
+            tokens: &self.tokens,
             elements: &self.elements,
             notes: &self.notes,
         }
     }
 }
 
-/// A plan's file with its elements and its tags.
+/// A plan's file with its tokens, its elements and its tags.
 #[derive(Clone, Copy)]
 pub(crate) struct Source<'a> {
     pub file: TextFile<'a>,
+    pub tokens: &'a Tokens<'a>,
     pub elements: &'a Elements,
     pub notes: &'a Notes,
 }
@@ -114,7 +125,12 @@ pub(crate) fn statement_byte(
         RawStmt::If { .. } => b"expr".as_slice(),
         RawStmt::Execute { .. } => b"method".as_slice(),
     };
-    attribute_byte(source.file.bytes, tag, attribute, at).or(Some(tag))
+    value_in(source, tag, attribute, at)
+}
+
+/// The byte of the file at which a byte of an attribute's value stands, in the tag that begins at a byte; else that byte.
+fn value_in(source: Source<'_>, tag: usize, attribute: &[u8], at: usize) -> Option<usize> {
+    value_byte(source.file.bytes, source.tokens, tag, attribute, at).or(Some(tag))
 }
 
 /// Appends a statement as it is quoted: ``EVAL `A= B`, the 4th statement of MZVE``. Of a long text the part round a place is
@@ -267,5 +283,5 @@ pub(crate) fn literal_byte(source: Source<'_>, site: DeclaredSite<'_>, at: usize
         _ => b"default".as_slice(),
     };
     let tag = declaration_byte(source, site)?;
-    attribute_byte(source.file.bytes, tag, attribute, at).or(Some(tag))
+    value_in(source, tag, attribute, at)
 }

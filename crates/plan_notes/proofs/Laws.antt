@@ -1,4 +1,4 @@
--- What a walk finds, start tag by start tag of an element, and what is passed over between tags.
+-- What a walk finds, start tag by start tag of an element, and what a file's tokens say.
 use Rattle.std.proofs.Common.{◌≡◌, ℕ, ◌+◌, List, ap, ◌∙◌}
 use Rattle.std.specs.Prelude.{find}
 use Rattle.pap_reader.specs.declared.element.Element.{Element}
@@ -10,7 +10,7 @@ use Rattle.plan_notes.specs.declared.notes.Walk.{Walk}
 use Rattle.plan_notes.specs.Walks.{notes_of, marks_left, is_start, behind_start, behind_starts, comments_of}
 use Rattle.plan_notes.specs.StartTags.{comments_before}
 use Rattle.plan_notes.proofs.WalkLemmas as walks
-pub use Rattle.plan_notes.proofs.CommentLemmas.{passed_comment, passed_white}
+pub use Rattle.plan_notes.proofs.EdgeLemmas.{whole_notes}
 
 -- behind so many start tags it finds the comments before the next
 pub comments_found : (notes : Notes) (walk : Walk) (element : Element) (number : ℕ) → notes_of walk ≡ notes

@@ -1,26 +1,29 @@
 -- What a scan's notes hold, one token after the other.
-use Rattle.std.proofs.Common.{◌≡◌, ℕ, ◌-◌, ◌≤◌, inl, inr, true, cond, List, [], ◌∷◌, ◌++◌, length, take, drop, map, refl, sym, ap, subst, ◌∙◌, arith}
+use Rattle.std.proofs.Common.{◌≡◌, ℕ, ◌+◌, ◌-◌, ◌<◌, ◌≤◌, cond, List, [], ◌∷◌, ◌++◌, length, take, drop, get_or, map, refl, sym, ap, subst, ◌∙◌, arith, Option, Result, Ok, Err}
 use Rattle.std.specs.declared.alloc.Global.{Global}
-use Rattle.std.specs.Prelude.{String, slice_range, option_map, string_bytes}
-use Rattle.std.specs.List.{flat_map}
+use Rattle.std.specs.declared.alloc.AllocError.{AllocError}
+use Rattle.std.specs.Prelude.{String, slice_range, option_map, string_bytes, vec_len, OnOk}
+use Rattle.std.specs.List.{flat_map, fold}
 use Rattle.std.proofs.lemmas.Bool.{le-leb}
 use Rattle.std.proofs.lemmas.List.{append-nil, append_assoc, map-append, length-append, length-drop, take-append-le, drop-append-le, take_rest, drop_all}
 use Rattle.std.proofs.lemmas.List.Concat.{flat_map-append}
 use Rattle.std.proofs.lemmas.List.Sums.{fold_push}
-use Rattle.pap_tree.specs.White.{is_white}
-use Rattle.pap_reader.specs.Tags.{Attribute, Tag, IsTag}
-use Rattle.pap_reader.specs.Skipped.{IsPassed, IsAfterProlog}
-use Rattle.pap_reader.specs.Marks.{marks_of}
+use Rattle.pap_reader.specs.declared.element.Element.{Element}
+use Rattle.pap_reader.specs.declared.tags.Form.{Form}
+use Rattle.pap_reader.specs.declared.tokens.Token.{Token as ReadToken}
+use Rattle.pap_reader.specs.Tags.{Attribute, Tag}
+use Rattle.pap_reader.specs.Marks.{element_of, marks_by, marks_of}
+use Rattle.pap_reader.specs.Contents.{Token, token_of}
+use Rattle.pap_reader.proofs.Laws as reader
 use Rattle.plan_notes.specs.declared.notes.Notes.{Notes}
+use Rattle.plan_notes.specs.declared.scan.Scan.{Scan}
 use Rattle.plan_notes.specs.declared.tag.Mark.{Mark}
 use Rattle.plan_notes.specs.Edges.{edges_by}
 use Rattle.plan_notes.specs.Marks.{edge_of, HaveInTurn}
 use Rattle.plan_notes.specs.Walks.{comments_at}
-use Rattle.plan_notes.specs.Contents.{Token, remark, tagged, IsToken, Tells, nothing, white, token, HasTokens, NoteItem, line, place, items_by, items_told, root_by, root_of}
-use Rattle.plan_notes.specs.Notes.{comment_items, items_at, noted, SaysOfRoot, HasNotes}
-use Rattle.plan_notes.specs.private.ScanViews.{AreKept, Stops, SameRoot, KeepsPassed, KeepsRootBy, TellsMore, HasTold}
-use Rattle.plan_notes.proofs.CommentLemmas.{passed_comment, passed_white}
-use Rattle.plan_notes.proofs.EdgeLemmas.{ended}
+use Rattle.plan_notes.specs.Contents.{NoteItem, line, place, remark_items, items_by, items_told, root_at, root_by, root_of}
+use Rattle.plan_notes.specs.Notes.{comment_items, items_at, noted, SaysOfRoot}
+use Rattle.plan_notes.specs.private.ScanViews.{SameRoot, AddsComment, Holds, Keeps}
 
 -- ---- the comments of marks
 
@@ -134,98 +137,106 @@ says_same old new attributes same says = record {
   version = ap (option_map (λ text. string_bytes text)) same.version ∙ says.version;
 }
 
--- ---- a comment
+-- ---- what a scan holds, with one thing more
 
-pub tells_passed : (old new : Notes) (first next at : ℕ) (bytes rest : List ℕ) → IsPassed bytes rest
-    → HaveInTurn 0 old.marks.items first → first ≤ length old.comments.items
-    → KeepsPassed old new (take (length bytes - length rest) bytes) → new.marks.items ≡ old.marks.items → next ≡ first
-    → SameRoot old new
-    → TellsMore old first new next at bytes rest
-tells_passed old new first next at bytes rest p turn within (inl kept) m e root = inr (record {
-  token = remark kept.0;
-  is = passed_comment bytes kept.0 rest p kept.1;
-  told = noted_comment old new first next kept.2.more turn within m kept.2.grown e
-      ∙ ap (λ z. noted old first ++ z) kept.2.lines;
-  root = λ before says. says_same old new before root says;
-})
-tells_passed old new first next at bytes rest p turn within (inr kept) m e root =
-    let first_byte = passed_white bytes rest p kept.0 in
-    inl (record {
-      byte = first_byte.0;
-      white = first_byte.1;
-      is = first_byte.2;
-      told = noted_same old new first next m kept.1 e;
-      root = root;
-    })
-
--- ---- a tag
-
-pub tells_tag : (old new : Notes) (first next at : ℕ) (bytes rest : List ℕ) (t : Tag) → IsTag bytes t rest
-    → noted new next ≡ noted old first ++ map place (edges_by at (marks_of t)) → KeepsRootBy old new (marks_of t)
-    → TellsMore old first new next at bytes rest
-tells_tag old new first next at bytes rest t is told root = inr (record {
-  token = tagged (record { at = at; tag = t });
-  is = (refl, is);
-  told = told;
-  root = root;
-})
-
--- ---- what a scan has told
-
-tells_more : {end : ℕ} {bytes left rest : List ℕ} {ts us : List Token} → Tells end bytes ts left
-    → Tells end left us rest → Tells end bytes (ts ++ us) rest
-tells_more nothing k = k
-tells_more (white w h) k = white w (tells_more h k)
-tells_more (token t is h) k = token t is (tells_more h k)
-
-with_more : (file left rest : List ℕ) (ts us : List Token) → HasTokens file ts left → Tells (length file) left us rest
-    → HasTokens file (ts ++ us) rest
-with_more file left rest ts us h k = record { body = h.body; prolog = h.prolog; tells = tells_more h.tells k }
-
-one_white : (end : ℕ) (left rest : List ℕ) (b : ℕ) → left ≡ b ∷ rest → is_white b ≡ true → Tells end left [] rest
-one_white end left rest b e w = subst (λ z. Tells end z [] rest) (sym e) (white w nothing)
-
-pub told_start : (file left : List ℕ) (notes : Notes) (first : ℕ) → IsAfterProlog file left → noted notes first ≡ []
-    → SaysOfRoot notes [] → HasTold file left notes first
-told_start file left notes first p told root = record {
-  tokens = [];
-  read = record { body = left; prolog = p; tells = nothing };
-  told = told;
-  root = root;
+pub holds_none : (scan : Scan) → scan.notes.marks.items ≡ [] → scan.notes.comments.items ≡ [] → scan.first ≡ 0
+    → SaysOfRoot scan.notes [] → Holds scan [] []
+holds_none scan m c e root = record {
+  in_turn = subst (λ (ms : List Mark). HaveInTurn 0 ms scan.first) (sym m) (sym e);
+  within = omega (arith, e);
+  told = noted_none scan.notes scan.first m c e;
+  says = root;
 }
 
-pub told_more : (file left rest : List ℕ) (old new : Notes) (first next at : ℕ) → HasTold file left old first → at
-    ≡ length file - length left
-    → TellsMore old first new next at left rest → HasTold file rest new next
-told_more file left rest old new first next at h e (inl w) = record {
-  tokens = h.tokens;
-  read = subst (λ ts. HasTokens file ts rest) (append-nil h.tokens)
-      (with_more file left rest h.tokens [] h.read (one_white (length file) left rest w.byte w.is w.white));
-  told = w.told ∙ h.told;
-  root = says_same old new (root_of h.tokens) w.root h.root;
-}
-told_more file left rest old new first next at h e (inr t) =
-    let is : IsToken (length file - length left) left t.token rest =
-    subst (λ n. IsToken n left t.token rest) e t.is in
+-- the same, but for comments more
+keeps_comments : (old new : Scan) (inside : List ℕ) → AddsComment old.notes.comments.items new.notes.comments.items inside
+    → new.notes.marks.items ≡ old.notes.marks.items → new.first ≡ old.first → SameRoot old.notes new.notes
+    → Keeps old new (remark_items inside) (λ before. before)
+keeps_comments old new inside added m e same items root h =
+    let within : old.first ≤ length old.notes.comments.items = omega (arith, h.within, old.notes.comments.ok.0) in
+    let longer = ap length added.grown in
     record {
-      tokens = h.tokens ++ (t.token ∷ []);
-      read = with_more file left rest h.tokens (t.token ∷ []) h.read (token t.token is nothing);
-      told = t.told ∙ ap (λ z. z ++ items_by t.token) h.told
-          ∙ ap (λ z. items_told h.tokens ++ z) (sym (append-nil (items_by t.token)))
-          ∙ sym (flat_map-append items_by h.tokens (t.token ∷ []));
-      root = subst (SaysOfRoot new) (sym (fold_push root_by [] h.tokens t.token)) (t.root (root_of h.tokens) h.root);
+      in_turn = subst (λ (ms : List Mark). HaveInTurn 0 ms new.first) (sym m)
+          (subst (HaveInTurn 0 old.notes.marks.items) (sym e) h.in_turn);
+      within = omega (arith, within, e, new.notes.comments.ok.0, longer, length-append old.notes.comments.items added.more);
+      told = noted_comment old.notes new.notes old.first new.first added.more h.in_turn within m added.grown e
+          ∙ ap (λ z. z ++ comment_items added.more) h.told ∙ ap (λ z. items ++ z) added.lines;
+      says = says_same old.notes new.notes root same h.says;
     }
 
-pub told_whole : (file left : List ℕ) (old new : Notes) (first at : ℕ) → HasTold file left old first
-    → AreKept old first at → Stops old new left → HasNotes file new
-told_whole file left old new first at h kept s = subst (HasNotes file) (sym s.same) (record {
-  tokens = h.tokens;
-  rest = left;
-  read = h.read;
-  ended = ended left s.not_passed s.no_tag;
-  behind = first;
-  in_turn = kept.in_turn;
-  within = kept.within;
-  items = h.told;
-  root = h.root;
-})
+pub keeps_comment : (old new : Scan) (inside : List ℕ) (r : Result (Unit {0}) AllocError)
+    → OnOk r (AddsComment old.notes.comments.items new.notes.comments.items inside)
+    → OnOk r (new.notes.marks.items ≡ old.notes.marks.items) → OnOk r (new.first ≡ old.first)
+    → OnOk r (SameRoot old.notes new.notes) → OnOk r (Keeps old new (remark_items inside) (λ before. before))
+keeps_comment old new inside (Ok u) added m e same = keeps_comments old new inside added m e same
+keeps_comment old new inside (Err f) added m e same = tt
+
+-- one tag more, with the comments behind the others'
+in_turn_push : (from : ℕ) (marks : List Mark) (mark : Mark) → HaveInTurn from marks mark.first
+    → mark.first ≤ mark.last → HaveInTurn from (marks ++ mark ∷ []) mark.last
+in_turn_push from [] mark turn up = (sym turn, (up, refl))
+in_turn_push from (m ∷ marks) mark turn up = (turn.0, (turn.1.0, in_turn_push m.last marks mark turn.1.1 up))
+
+pub keeps_mark : (old new : Scan) (m : Mark) → m.first ≡ old.first → m.last ≡ vec_len old.notes.comments
+    → new.first ≡ m.last → new.notes.marks.items ≡ old.notes.marks.items ++ m ∷ []
+    → new.notes.comments ≡ old.notes.comments → SameRoot old.notes new.notes
+    → Keeps old new (place (edge_of m) ∷ []) (λ before. before)
+keeps_mark old new m f l e grown c same items root h =
+    let turn : HaveInTurn 0 old.notes.marks.items m.first =
+    subst (HaveInTurn 0 old.notes.marks.items) (sym f) h.in_turn in
+    record {
+      in_turn = subst (λ (ms : List Mark). HaveInTurn 0 ms new.first) (sym grown)
+          (subst (HaveInTurn 0 (old.notes.marks.items ++ m ∷ [])) (sym e)
+          (in_turn_push 0 old.notes.marks.items m turn (omega (arith, f, l, h.within))));
+      within = omega (arith, e, l, ap vec_len c);
+      told = ap (noted new.notes) e
+          ∙ noted_mark old.notes new.notes m (l ∙ old.notes.comments.ok.0) grown (ap (λ v. v.items) c)
+          ∙ ap (λ z. z ++ place (edge_of m) ∷ []) (ap (noted old.notes) f ∙ h.told);
+      says = says_same old.notes new.notes root same h.says;
+    }
+
+-- nothing more, but another root
+pub keeps_root : (old new : Scan) (turn : List Attribute → List Attribute) → new.notes.marks ≡ old.notes.marks
+    → new.notes.comments ≡ old.notes.comments → new.first ≡ old.first
+    → ((root : List Attribute) → SaysOfRoot old.notes root → SaysOfRoot new.notes (turn root)) → Keeps old new [] turn
+keeps_root old new turn m c e says items root h = record {
+  in_turn = subst (λ ms. HaveInTurn 0 ms.items new.first) (sym m)
+      (subst (HaveInTurn 0 old.notes.marks.items) (sym e) h.in_turn);
+  within = omega (arith, h.within, e, ap vec_len c);
+  told = noted_same old.notes new.notes old.first new.first (ap (λ v. v.items) m) (ap (λ v. v.items) c) e
+      ∙ h.told ∙ sym (append-nil items);
+  says = says root h.says;
+}
+
+-- one after the other
+pub keeps_on : (a b c : Scan) (x y : List NoteItem) (f g : List Attribute → List Attribute) (r : Result (Unit {0}) AllocError)
+    → Keeps a b x f → OnOk r (Keeps b c y g) → OnOk r (Keeps a c (x ++ y) (λ root. g (f root)))
+keeps_on a b c x y f g (Ok u) h k = λ items root held.
+    subst (λ z. Holds c z (g (f root))) (append_assoc items x y) (k (items ++ x) (f root) (h items root held))
+keeps_on a b c x y f g (Err e) h k = tt
+
+-- a tag of this form and element
+pub keeps_tag : (a b : Scan) (at : ℕ) (t : Tag) (f : Form) (o : Option Element) (r : Result (Unit {0}) AllocError)
+    → t.form ≡ f → element_of t.name ≡ o
+    → OnOk r (Keeps a b (map place (edges_by at (marks_by f o t.attributes)))
+    (λ root. fold root_at root (marks_by f o t.attributes)))
+    → OnOk r (Keeps a b (map place (edges_by at (marks_of t))) (λ root. fold root_at root (marks_of t)))
+keeps_tag a b at t f o r e i h =
+    let same : marks_of t ≡ marks_by f o t.attributes =
+    ap (λ z. marks_by z (element_of t.name) t.attributes) e ∙ ap (λ z. marks_by f z t.attributes) i in
+    subst (λ ms. OnOk r (Keeps a b (map place (edges_by at ms)) (λ root. fold root_at root ms))) (sym same) h
+
+-- one token more
+pub holds_more : (old new : Scan) (xs ys : List ReadToken) (i : ℕ) (t : ReadToken) → ys ≡ xs → i < length ys → t ≡ get_or ys i t
+    → Holds old (items_told (map token_of (take i xs))) (root_of (map token_of (take i xs)))
+    → Keeps old new (items_by (token_of t)) (λ before. root_by before (token_of t))
+    → Holds new (items_told (map token_of (take (i + 1) xs))) (root_of (map token_of (take (i + 1) xs)))
+holds_more old new xs ys i t same lt e h k =
+    let ts : List Token = map token_of (take i xs) in
+    let u : Token = token_of t in
+    let more : items_told (ts ++ (u ∷ [])) ≡ items_told ts ++ items_by u =
+    flat_map-append items_by ts (u ∷ []) ∙ ap (λ z. items_told ts ++ z) (append-nil (items_by u)) in
+    subst (λ us. Holds new (items_told us) (root_of us)) (sym (reader.one_token_more xs ys i t same lt e))
+    (subst (λ z. Holds new z (root_of (ts ++ (u ∷ [])))) (sym more)
+    (subst (Holds new (items_told ts ++ items_by u)) (sym (fold_push root_by [] ts u))
+    (k (items_told ts) (root_of ts) h)))

@@ -1,18 +1,20 @@
 -- Where the bytes of an attribute's value are written.
-use Rattle.std.specs.Prelude.{◌≡◌, ℕ, zero, suc, ◌+◌, true, false, List, length, drop}
-use Rattle.pap_reader.specs.Bytes.{drop_while}
-use Rattle.std.specs.Char.{is_ascii_alphabetic}
+use Rattle.std.specs.Prelude.{◌≡◌, ◌==◌, ℕ, zero, suc, ◌-◌, List, [], ◌∷◌, Option, Some, None, length, if◌then◌else◌}
 use Rattle.std.specs.Str.{bytes_eq}
-use Rattle.pap_reader.specs.Tags.{Attribute, IsFrontOf, IsAttribute}
+use Rattle.pap_reader.specs.Tags.{Attribute}
 use Rattle.pap_reader.specs.Values.{IsByte, NoByte}
+use Rattle.pap_reader.specs.Contents.{Token, remark, tagged}
 
--- Of the attributes from a place on, the first of this name has its value there, behind this quote.
-pub data IsValueAt : List ℕ → List ℕ → ℕ → List ℕ → Type 0 where
-  here : {name other bytes text : List ℕ} {quote : ℕ}
-      → IsFrontOf bytes other quote text → bytes_eq other name ≡ true → IsValueAt name bytes quote text
-  later : {name bytes next text : List ℕ} {quote : ℕ} (a : Attribute)
-      → IsAttribute bytes a next → bytes_eq a.name name ≡ false → IsValueAt name next quote text
-      → IsValueAt name bytes quote text
+-- the first of these attributes that has this name
+abbrev pub attribute_named : List ℕ → List Attribute → Option Attribute
+attribute_named name [] = None
+attribute_named name (a ∷ attributes) = if bytes_eq a.name name then Some a else attribute_named name attributes
+
+-- the attribute of this name in the tag among the tokens that begins at a byte
+abbrev pub attribute_at : ℕ → List ℕ → List Token → Option Attribute
+attribute_at at name [] = None
+attribute_at at name (remark from inside ∷ ts) = attribute_at at name ts
+attribute_at at name (tagged t ∷ ts) = if t.at == at then attribute_named name t.tag.attributes else attribute_at at name ts
 
 -- what is written behind so many bytes of a value with this quote; behind the last where there are fewer
 pub data IsBehind : ℕ → List ℕ → ℕ → List ℕ → Type 0 where
@@ -21,11 +23,10 @@ pub data IsBehind : ℕ → List ℕ → ℕ → List ℕ → Type 0 where
       → IsByte quote text c next → IsBehind quote next count left → IsBehind quote text (suc count) left
   ended : {quote count : ℕ} {text : List ℕ} → NoByte quote text → IsBehind quote text count text
 
--- the place in the file, where so many bytes of the value of the attribute of this name stand before it
-pub record IsAttributeByte (file : List ℕ) (tag : ℕ) (name : List ℕ) (number at : ℕ) : Type 0 where
-  pub quote : ℕ
-  pub text : List ℕ
-  pub value : IsValueAt name (drop_while is_ascii_alphabetic (drop 1 (drop tag file))) quote text
+-- the attribute is there, and this is the byte of a file of this length where so many bytes of its value stand before it
+pub record IsValueByte (end : ℕ) (found : Option Attribute) (number at : ℕ) : Type 0 where
+  pub attribute : Attribute
+  pub there : found ≡ Some attribute
   pub left : List ℕ
-  pub behind : IsBehind quote text number left
-  pub is : at + length left ≡ length file
+  pub behind : IsBehind attribute.quote attribute.text number left
+  pub is : at ≡ end - length left

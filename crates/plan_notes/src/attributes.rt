@@ -1,53 +1,73 @@
 //! Where the bytes of an attribute's value are written.
-ghost use Rattle.std.specs.Prelude.{◌≡◌, ◌≤◌, ℕ, List, length, drop, IfSome, MatchOption};
-ghost use Rattle.pap_reader.specs.Bytes.{drop_while};
-ghost use Rattle.std.specs.Char.{is_ascii_alphabetic};
-ghost use Rattle.pap_reader.specs.Tags.{Tag, IsTag};
-ghost use Rattle.pap_reader.specs.Attributes.{attribute_value};
-ghost use Rattle.plan_notes.specs.AttributeBytes.{IsValueAt, IsBehind, IsAttributeByte};
+ghost use Rattle.std.specs.Prelude.{◌≡◌, length, MatchOption, option_map};
+ghost use Rattle.pap_reader.specs.Tags.{attribute_of, attributes_of};
+ghost use Rattle.pap_reader.specs.Contents.{tokens_of};
+ghost use Rattle.plan_notes.specs.AttributeBytes.{attribute_named, attribute_at, IsBehind, IsValueByte};
 
-use pap_reader::{ValueFront, past_mark, read_byte, read_value_front, split_letters};
+use pap_reader::{Attribute, Token, Tokens, read_byte};
 
 /// The byte of a file at which the byte of a number, counted from 0, is written that the value of an attribute stands for, in
-/// the tag that begins at a place; behind the value's last byte it is that of its closing quote. `None` where the tag has no
-/// such attribute. Where no tag begins at the place, any byte or none is given.
-pub fn attribute_byte(file: &[u8], tag: usize, name: &[u8], number: usize) -> Option<usize>
-    ensures { (t : Tag) (rest : List ℕ) → IsTag (drop tag file.now) t rest
-        → MatchOption result (attribute_value name.now t.attributes ≡ None)
-        (IsAttributeByte file.now tag name.now number) }
+/// the tag that begins at a place; behind the value's last byte it is that of its closing quote. `None` where none of the file's
+/// tags begins there, or it has no such attribute.
+pub fn value_byte(
+    file: &[u8],
+    tokens: &Tokens<'_>,
+    tag: usize,
+    name: &[u8],
+    number: usize,
+) -> Option<usize>
+    ensures { MatchOption result
+        (attribute_at tag name.now (tokens_of tokens.now) ≡ None)
+        (IsValueByte (length file.now) (attribute_at tag name.now (tokens_of tokens.now)) number) }
 {
-    let front = front_of(file.get(tag..)?, name)?;
-    let left = behind_bytes(front, number);
+    let attribute = attribute_at(tokens, tag, name)?;
+    let left = behind_bytes(attribute, number);
     Some(file.len().saturating_sub(left.len()))
 }
 
-/// What stands before the value of the first attribute of a name, in the tag with which a text begins. `None` where the tag
-/// has no such attribute.
-fn front_of<'a>(text: &'a [u8], name: &[u8]) -> Option<ValueFront<'a>>
-    ensures value { (t : Tag) (rest : List ℕ) → IsTag text.entry.now t rest
-        → MatchOption result (attribute_value name.now t.attributes ≡ None)
-        (λ front. IsValueAt name.now (drop_while is_ascii_alphabetic (drop 1 text.entry.now))
-        front.quote front.text.now) }
-    ensures within { IfSome result (λ front. length front.text.now ≤ length text.entry.now) }
+/// The attribute of a name in the tag among the tokens that begins at a byte.
+fn attribute_at<'t, 'a>(
+    tokens: &'t Tokens<'a>,
+    at: usize,
+    name: &[u8],
+) -> Option<&'t Attribute<'a>>
+    ensures { option_map (λ attribute. attribute_of attribute.now) result
+        ≡ attribute_at at name.now (tokens_of tokens.now) }
 {
-    let mut left = split_letters(text.get(1..)?).1;
-    while let Some(front) = read_value_front(left) {
-        if front.name == name {
-            return Some(front);
+    for token in &tokens.items {
+        let Token::Tag { at: place, tag } = token else {
+            continue;
+        };
+        if *place == at {
+            return attribute_named(&tag.attributes, name);
         }
-        left = past_mark(front.text, &[front.quote])?;
     }
     None
 }
 
-/// What is written of a value behind so many of the bytes that it stands for.
-fn behind_bytes(front: ValueFront<'_>, count: usize) -> &[u8]
-    ensures behind { IsBehind front.entry.quote front.entry.text.now count result.now }
-    ensures within { length result.now ≤ length front.entry.text.now }
+/// The first attribute of a name.
+fn attribute_named<'t, 'a>(
+    attributes: &'t [Attribute<'a>],
+    name: &[u8],
+) -> Option<&'t Attribute<'a>>
+    ensures { option_map (λ attribute. attribute_of attribute.now) result
+        ≡ attribute_named name.now (attributes_of attributes.now) }
 {
-    let mut left = front.text;
+    for attribute in attributes {
+        if attribute.name == name {
+            return Some(attribute);
+        }
+    }
+    None
+}
+
+/// What is written of an attribute's value behind so many of the bytes that it stands for.
+fn behind_bytes<'a>(attribute: &Attribute<'a>, count: usize) -> &'a [u8]
+    ensures { IsBehind attribute.now.quote attribute.now.text.now count result.now }
+{
+    let mut left = attribute.text;
     for _read in 0..count {
-        match read_byte(left, front.quote) {
+        match read_byte(left, attribute.quote) {
             Some((_, rest)) => left = rest,
             None => return left,
         }

@@ -1,20 +1,22 @@
-//! One pass over a plan's file.
-ghost use Rattle.std.specs.Prelude.{◌≡◌, ℕ, ◌+◌, ◌<◌, ◌≤◌, List, [], ◌∷◌, ◌++◌, map, length, vec_len, All, IfOk, IfSome, OnOk, MatchOption, option_map, string_bytes};
+//! The notes of a plan's file, from its tokens.
+ghost use Rattle.std.specs.Prelude.{◌≡◌, ◌<◌, [], ◌∷◌, false, map, length, vec_len, All, IfOk, OnOk, option_map, string_bytes};
+ghost use Rattle.std.specs.List.{fold};
 ghost use Rattle.std.specs.List.Sorted.{IsNonDecreasingBy};
 ghost use Rattle.pap_reader.specs.Tags.{tag_of, attributes_of};
-ghost use Rattle.pap_reader.specs.Marks.{marks_of};
+ghost use Rattle.pap_reader.specs.Marks.{marks_of, begins};
 ghost use Rattle.pap_reader.specs.Attributes.{attribute_value};
+ghost use Rattle.pap_reader.specs.Contents.{token_of, tokens_of};
 ghost use Rattle.plan_notes.specs.Lines.{line_text};
 ghost use Rattle.plan_notes.specs.Edges.{HasEdges, edge, edges_by};
 ghost use Rattle.plan_notes.specs.Marks.{edge_of, HaveComments};
-ghost use Rattle.plan_notes.specs.Contents.{comment_with, place};
-ghost use Rattle.plan_notes.specs.Notes.{noted, SaysOfRoot, HasNotes};
-ghost use Rattle.plan_notes.specs.private.ScanViews.{AreKept, Finds, Takes, Stops, SameRoot, AddsComment, KeepsPassed, KeepsRoot, KeepsRootBy, TellsMore};
+ghost use Rattle.plan_notes.specs.Contents.{place, items_by, root_at, root_by};
+ghost use Rattle.plan_notes.specs.Notes.{IsNoted, HasNotes};
+ghost use Rattle.plan_notes.specs.private.ScanViews.{Holds, Keeps, SameRoot, AddsComment, KeepsRoot};
 
 use crate::notes::Notes;
 use crate::tag::Mark;
 use crate::text::one_line;
-use pap_reader::{Element, Form, Tag, after_passed, after_prolog, read_tag, value_of};
+use pap_reader::{Element, Form, Tag, Token, Tokens, read_tokens, value_of};
 use std::alloc::{AllocError, Global};
 
 /// The tags and comments so far.
@@ -39,10 +41,17 @@ pub fn read_notes(alloc: Global, file: &[u8]) -> Result<Notes, AllocError>
     ensures comments { IfOk result (λ notes.
         HaveComments notes.marks.items (vec_len notes.comments)) }
 {
+    let tokens = read_tokens(alloc, file)?;
+    notes_of(alloc, &tokens)
+}
+
+/// The same of a file whose tokens are read.
+pub fn notes_of(alloc: Global, tokens: &Tokens<'_>) -> Result<Notes, AllocError>
+    ensures { IfOk result (λ notes. IsNoted (tokens_of tokens.now) notes) }
+{
     let mut scan = Scan::new(alloc);
-    let mut left = after_prolog(file);
-    while let Some(rest) = scan.take(left, file.len() - left.len())? {
-        left = rest;
+    for token in &tokens.items {
+        scan.take(token)?;
     }
     Ok(scan.notes)
 }
@@ -50,10 +59,7 @@ pub fn read_notes(alloc: Global, file: &[u8]) -> Result<Notes, AllocError>
 impl Scan {
     /// Nothing yet.
     fn new(alloc: Global) -> Scan
-        ensures kept { AreKept result.notes result.first 0 }
-        ensures empty { result.notes.marks.items ≡ [] }
-        ensures told { noted result.notes result.first ≡ [] }
-        ensures root { SaysOfRoot result.notes [] }
+        ensures { Holds result [] [] }
     {
         Scan {
             alloc,
@@ -67,41 +73,14 @@ impl Scan {
         }
     }
 
-    /// Keeps what comes first, which stands at a place, and gives what is left. `None` where no token begins.
-    fn take<'a>(&mut self, bytes: &'a [u8], at: usize) -> Result<Option<&'a [u8]>, AllocError>
-        requires { AreKept self.old.notes self.old.first at }
-        ensures taken { IfOk result (λ o. MatchOption o
-            (Stops self.old.notes self.new.notes bytes.now)
-            (λ rest. Takes self.old.notes self.new.notes at bytes.now rest.now)) }
-        ensures kept { IfOk result (λ o. IfSome o (λ _.
-            AreKept self.new.notes self.new.first (at + 1))) }
-        ensures told { IfOk result (λ o. IfSome o (λ rest. TellsMore self.old.notes self.old.first
-            self.new.notes self.new.first at bytes.now rest.now)) }
-        ensures shorter { IfOk result (λ o. IfSome o (λ rest. length rest.now < length bytes.now)) }
+    /// Keeps a token.
+    fn take(&mut self, token: &Token<'_>) -> Result<(), AllocError>
+        ensures { OnOk result (Keeps self.old self.new
+            (items_by (token_of token.now)) (λ before. root_by before (token_of token.now))) }
     {
-        if let Some(rest) = after_passed(bytes) {
-            self.keep_passed(&bytes[..bytes.len() - rest.len()])?;
-            return Ok(Some(rest));
-        }
-        let Some((tag, rest)) = read_tag(self.alloc, bytes)? else {
-            return Ok(None);
-        };
-        self.keep_tag(at, &tag)?;
-        Ok(Some(rest))
-    }
-
-    /// Keeps what stands before a tag, if it is a comment and not white space.
-    fn keep_passed(&mut self, passed: &[u8]) -> Result<(), AllocError>
-        ensures told { OnOk result (KeepsPassed self.old.notes self.new.notes passed.now) }
-        ensures marks { OnOk result (self.new.notes.marks.items ≡ self.old.notes.marks.items) }
-        ensures first { OnOk result (self.new.first ≡ self.old.first) }
-        ensures root { OnOk result (SameRoot self.old.notes self.new.notes) }
-        ensures more { OnOk result
-            (vec_len self.old.notes.comments ≤ vec_len self.new.notes.comments) }
-    {
-        match inside_comment(passed) {
-            Some(inside) => self.keep_comment(inside),
-            None => Ok(()),
+        match token {
+            Token::Comment { inside, .. } => self.keep_comment(inside),
+            Token::Tag { at, tag } => self.keep_tag(*at, tag),
         }
     }
 
@@ -112,8 +91,6 @@ impl Scan {
         ensures marks { OnOk result (self.new.notes.marks.items ≡ self.old.notes.marks.items) }
         ensures first { OnOk result (self.new.first ≡ self.old.first) }
         ensures root { OnOk result (SameRoot self.old.notes self.new.notes) }
-        ensures more { OnOk result
-            (vec_len self.old.notes.comments ≤ vec_len self.new.notes.comments) }
     {
         let line = one_line(self.alloc, inside)?;
         if !line.is_empty() {
@@ -124,28 +101,31 @@ impl Scan {
 
     /// Keeps the tag that begins at a place.
     fn keep_tag(&mut self, at: usize, tag: &Tag<'_>) -> Result<(), AllocError>
-        requires { AreKept self.old.notes self.old.first (at + 1) }
-        ensures kept { OnOk result (AreKept self.new.notes self.new.first (at + 1)) }
-        ensures found { OnOk result
-            (Finds self.old.notes self.new.notes (edges_by at (marks_of (tag_of tag.now)))) }
-        ensures told { OnOk result (noted self.new.notes self.new.first
-            ≡ noted self.old.notes self.old.first
-            ++ map place (edges_by at (marks_of (tag_of tag.now)))) }
-        ensures root { OnOk result
-            (KeepsRootBy self.old.notes self.new.notes (marks_of (tag_of tag.now))) }
+        ensures { OnOk result (Keeps self.old self.new
+            (map place (edges_by at (marks_of (tag_of tag.now))))
+            (λ before. fold root_at before (marks_of (tag_of tag.now)))) }
     {
         let Some(element) = Element::named(tag.name) else {
             return Ok(());
         };
-        if tag.form == Form::End {
-            return self.mark(at, element, true);
+        match tag.form {
+            Form::Start => self.begin(at, element, tag),
+            Form::Empty => {
+                self.begin(at, element, tag)?;
+                self.mark(at, element, true)
+            }
+            Form::End => self.mark(at, element, true),
         }
+    }
+
+    /// Keeps where an element begins, and what its tag says of the plan, where it is the root's.
+    fn begin(&mut self, at: usize, element: Element, tag: &Tag<'_>) -> Result<(), AllocError>
+        ensures { OnOk result (Keeps self.old self.new
+            (place (edge element false at) ∷ [])
+            (λ before. root_at before (begins element (attributes_of tag.now.attributes.items)))) }
+    {
         self.keep_root(element, tag)?;
-        self.mark(at, element, false)?;
-        if tag.form == Form::Empty {
-            self.mark(at, element, true)?;
-        }
-        Ok(())
+        self.mark(at, element, false)
     }
 
     /// Keeps what the start tag of an element says of the plan, where it is the root's.
@@ -155,8 +135,6 @@ impl Scan {
         ensures marks { OnOk result (self.new.notes.marks ≡ self.old.notes.marks) }
         ensures comments { OnOk result (self.new.notes.comments ≡ self.old.notes.comments) }
         ensures first { OnOk result (self.new.first ≡ self.old.first) }
-        ensures told { OnOk result (noted self.new.notes self.new.first
-            ≡ noted self.old.notes self.old.first) }
     {
         if element != Element::Pap {
             return Ok(());
@@ -168,13 +146,8 @@ impl Scan {
 
     /// Appends a tag, with the comments since the one before.
     fn mark(&mut self, at: usize, element: Element, is_end: bool) -> Result<(), AllocError>
-        requires { AreKept self.old.notes self.old.first (at + 1) }
-        ensures kept { OnOk result (AreKept self.new.notes self.new.first (at + 1)) }
-        ensures found { OnOk result
-            (Finds self.old.notes self.new.notes (edge element is_end at ∷ [])) }
-        ensures told { OnOk result (noted self.new.notes self.new.first
-            ≡ noted self.old.notes self.old.first ++ place (edge element is_end at) ∷ []) }
-        ensures root { OnOk result (SameRoot self.old.notes self.new.notes) }
+        ensures { OnOk result (Keeps self.old self.new
+            (place (edge element is_end at) ∷ []) (λ before. before)) }
     {
         let first = self.first;
         let last = self.notes.comments.len();
@@ -188,15 +161,6 @@ impl Scan {
         })?;
         Ok(())
     }
-}
-
-/// The text inside a comment, of what [`after_passed`] passes over. `None` where white space stands.
-pub fn inside_comment(passed: &[u8]) -> Option<&[u8]>
-    ensures { MatchOption result
-        ((inside : List ℕ) → passed.now ≡ comment_with inside → ⊥)
-        (λ inside. passed.now ≡ comment_with inside.now) }
-{
-    passed.strip_prefix(b"<!--")?.strip_suffix(b"-->")
 }
 
 /// The value of an attribute of a tag, in one line. `None` where the tag has no such attribute.

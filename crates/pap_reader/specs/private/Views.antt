@@ -17,8 +17,8 @@ use Rattle.std.specs.Char.{is_ascii_alphabetic, is_ascii_digit}
 use Rattle.std.specs.List.{take_while}
 use Rattle.pap_reader.specs.Values.{is_quote}
 use Rattle.pap_reader.specs.private.EscapeDecisions.{byte_named}
-use Rattle.pap_reader.specs.Tags.{Attribute, IsAttribute, Ending}
-use Rattle.pap_reader.specs.Skipped.{IsPassed}
+use Rattle.pap_reader.specs.Tags.{Attribute, IsAttribute, Ending, NoTag}
+use Rattle.pap_reader.specs.Contents.{IsComment}
 use Rattle.pap_reader.specs.Attributes.{attribute_value, is_met_by, a_name, a_type}
 use Rattle.pap_reader.specs.Trees.{raw_declaration_of}
 use Rattle.pap_reader.specs.Meaning.{declared, attribute_text}
@@ -57,10 +57,12 @@ NoClosing bytes = (rest : List ℕ) → Closing bytes rest → ⊥
 abbrev pub NoEnding : List ℕ → Type 0
 NoEnding bytes = (f : Form) (attributes : List Attribute) (rest : List ℕ) → Ending bytes f attributes rest → ⊥
 
--- The rest is left after some white space and comments.
-pub data Passes : List ℕ → List ℕ → Type 0 where
-  none : {bytes : List ℕ} → Passes bytes bytes
-  one : {bytes next rest : List ℕ} → IsPassed bytes next → Passes next rest → Passes bytes rest
+abbrev pub NoComment : List ℕ → Type 0
+NoComment bytes = (inside rest : List ℕ) → IsComment bytes inside rest → ⊥
+
+-- neither a comment nor a tag
+abbrev pub NoToken : List ℕ → Type 0
+NoToken bytes = NoComment bytes × NoTag bytes
 
 -- ---- what the attributes say
 

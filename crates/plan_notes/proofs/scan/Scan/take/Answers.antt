@@ -1,25 +1,22 @@
-use Rattle.std.proofs.Common.{◌≤◌, length, arith}
-use Rattle.std.proofs.lemmas.Option.{MatchOption-at_some}
-use Rattle.pap_reader.specs.Tags.{tag_of}
-use Rattle.plan_notes.proofs.NoteLemmas.{tells_passed, tells_tag}
+use Rattle.std.proofs.Common.{sym, subst}
+use Rattle.std.specs.Prelude.{OnOk}
+use Rattle.pap_reader.specs.Contents.{token_of}
+use Rattle.plan_notes.specs.Contents.{items_by, root_by}
+use Rattle.plan_notes.specs.private.ScanViews.{Keeps}
+use Rattle.plan_notes.proofs.NoteLemmas.{keeps_comment}
 use Rattle.plan_notes.proofs.scan.Scan.take.Goals as goal
 
-pub returns-in-Some-clause-told : goal.returns-in-Some-clause-told
-returns-in-Some-clause-told c =
+pub returns-in-Comment : goal.returns-in-Comment
+returns-in-Comment c =
     let old = c.args.self.now in
-    let new = c.keep_passed.new.self in
-    let kept = c.in_ok-keep_passed.ensures in
-    let within : old.first ≤ length old.notes.comments.items =
-    omega (arith, c.requires.within, old.notes.comments.ok.0) in
-    tells_passed old.notes new.notes old.first new.first c.args.at c.args.bytes.now c.in-Some.rest.now
-    c.in-Some.ensures.found c.requires.in_turn within
-    kept.told kept.marks kept.first kept.root
+    let new = c.keep_comment.new.self in
+    let kept = c.keep_comment.ensures in
+    subst (λ t. OnOk c.keep_comment.result (Keeps old new (items_by (token_of t)) (λ before. root_by before (token_of t))))
+    (sym c.in-Comment.is)
+    (keeps_comment old new c.in-Comment.inside.now c.keep_comment.result kept.told kept.marks kept.first kept.root)
 
-pub returns-clause-told : goal.returns-clause-told
-returns-clause-told c =
-    let old = c.args.self.now in
-    let new = c.keep_tag.new.self in
-    tells_tag old.notes new.notes old.first new.first c.args.at c.args.bytes.now c.in-Some-2.rest.now
-    (tag_of c.in-Some-2.tag)
-    (MatchOption-at_some _ _ _ c.in-Some-2.is c.in_ok-tag.ensures.found) c.in_ok-keep_tag.ensures.told
-    c.in_ok-keep_tag.ensures.root
+pub returns-in-Tag : goal.returns-in-Tag
+returns-in-Tag c =
+    subst (λ t. OnOk c.keep_tag.result
+    (Keeps c.args.self.now c.keep_tag.new.self (items_by (token_of t)) (λ before. root_by before (token_of t))))
+    (sym c.in-Tag.is) c.keep_tag.ensures
