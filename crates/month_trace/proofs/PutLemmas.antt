@@ -1,42 +1,19 @@
 -- A variable gets a value.
-use Rattle.std.proofs.Common.{◌≡◌, ℕ, List, Some, None, true, set, refl, sym, ap, ◌∙◌, arith, inl, inr}
-use Rattle.std.specs.Prelude.{slice_get}
-use Rattle.std.proofs.lemmas.List.{length-map}
-use Rattle.std.proofs.lemmas.Option.{slice_get_cases, none-some}
+use Rattle.std.proofs.Common.{◌≡◌, ℕ, List, Some, true, set, sym, ap, ◌∙◌}
 use Rattle.scaled_decimal.specs.Decimals.{Decimal, decimal}
 use Rattle.pap_tree.specs.declared.declaration.Kind.{Kind}
 use Rattle.pap_tree.specs.declared.declaration.Kind.TheVariants as declares
 use Rattle.pap_tree.specs.declared.plan.PlanText.{PlanText}
-use Rattle.pap_tree.specs.Declarations.{Declaration}
 use Rattle.pap_tree.specs.Term.{Term, leaf, item, one, two, choice, whole, long, point, text, known, named}
 use Rattle.pap_types.specs.declared.kinds.NodeKind.{NodeKind}
 use Rattle.pap_types.specs.Kinds.{suits, is_factor_literal}
 use Rattle.pap_types.specs.Runs.{assigned}
-use Rattle.pap_types.specs.Scopes.{Scope, names_of, number_of, declared_as, declaration_in}
+use Rattle.pap_types.specs.Scopes.{Scope, number_of}
 use Rattle.pap_types.specs.Values.{Env, value, put_value}
-use Rattle.pap_types.proofs.Laws.{declared_by}
 use Rattle.month_trace.specs.Traces.{value_put}
 use Rattle.pap_types.specs.private.ScopeViews.{scope_in, variables_in}
 use Rattle.month_trace.specs.private.ValueViews.{IsSized, values_in, IsFactorOf, CanKeep}
-use Rattle.month_trace.proofs.NameLemmas.{number_in, put_by}
-
--- a name that has a variable's number is declared as that variable
-pub variable_of : (scope : Scope) (x : List ℕ) (i : ℕ) → Some i ≡ number_of (names_of scope.variables) x
-    → declaration_in scope x ≡ declared_as scope.variables x
-variable_of scope x i number =
-    let vs = scope.variables in
-    let at : slice_get vs i ≡ declared_as vs x = declared_by vs x (names_of vs) (Some i) refl number in
-    let within = (number_in (names_of vs) x i (sym number)).1 in
-    elim (slice_get_cases vs i).1 [
-      | inl here ↦ (let is : declared_as vs x ≡ Some here.0 = sym at ∙ here.2 in rw is refl)
-      | inr past ↦ absurd (omega (arith, within, past.0, length-map vs (λ d. d.name)))
-    ]
-
--- what is no variable has no declaration as one
-pub not_declared : (scope : Scope) (x : List ℕ) (d : Declaration) → declared_as scope.variables x ≡ Some d
-    → None ≡ number_of (names_of scope.variables) x → ⊥
-not_declared scope x d is none =
-    none-some d (declared_by scope.variables x (names_of scope.variables) None refl none ∙ is)
+use Rattle.month_trace.proofs.NameLemmas.{put_by}
 
 pub put_kept : (p : PlanText) (vs : List Decimal) (x : List ℕ) (a kept : Decimal) (i : ℕ) → IsSized p vs
     → Some i ≡ number_of (variables_in p) x → kept ≡ value_put (scope_in p) x a

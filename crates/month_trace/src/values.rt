@@ -1,15 +1,16 @@
 //! The values of variables by number, and what names stand for.
-ghost use Rattle.std.specs.Prelude.{◌≡◌, ◌++◌, Some, IsSome, IfOk, OnOk, map};
+ghost use Rattle.std.specs.Prelude.{◌≡◌, ◌++◌, Some, IsSome, IfSome, IfOk, OnOk, map};
 ghost use Rattle.std.specs.List.{All};
+ghost use Rattle.std.specs.Option.{option_map};
 ghost use Rattle.pap_tree.specs.Declarations.{declaration_of};
 ghost use Rattle.pap_tree.specs.Flowchart.{flowchart_of};
 ghost use Rattle.pap_tree.specs.Term.{term_of};
 ghost use Rattle.pap_types.specs.Meaning.{AreInputs};
 ghost use Rattle.pap_types.specs.Runs.{assigned};
-ghost use Rattle.pap_types.specs.Scopes.{first_value, table_in, kept_as, at_factor_scale};
+ghost use Rattle.pap_types.specs.Scopes.{first_value, number_of, declared_as, table_in, kept_as, at_factor_scale};
 ghost use Rattle.pap_types.specs.Typing.{HasItsType};
 ghost use Rattle.month_trace.specs.Traces.{value_put};
-ghost use Rattle.pap_types.specs.private.ScopeViews.{scope_in};
+ghost use Rattle.pap_types.specs.private.ScopeViews.{scope_in, variables_in};
 ghost use Rattle.month_trace.specs.private.ValueViews.{HasValues, IsStart, CanPut, CanKeep, IsFactorOf, values_in, name_value_in};
 
 use pap_tree::{Declared, Expr, Kind, Name};
@@ -79,15 +80,27 @@ pub(crate) fn put(plan: &Typed, target: &Name, e: &Expr, value: Dec, values: &mu
     ensures values { values_in plan.now values.new
         ≡ assigned (scope_in plan.now) target.now value (values_in plan.now values.old) }
 {
-    let Some(number) = plan.variable(target) else {
+    let Some((number, declared)) = target_of(plan, target) else {
         unreachable!()
     };
-    let kept = match plan.declaration(target) {
-        Some(declared) => kept_as(declared.kind, e, value),
-        None => value,
-    };
+    let kept = kept_as(declared.kind, e, value);
     values[number] = kept;
     kept
+}
+
+/// The number of a variable, and its declaration.
+fn target_of<'a>(plan: &'a Typed, name: &Name) -> Option<(usize, &'a Declared)>
+    ensures number { IfSome result (λ v. number_of (variables_in plan.now) name.now ≡ Some v.0) }
+    ensures declared { option_map (λ v. declaration_of v.1.now) result
+        ≡ declared_as (scope_in plan.now).variables name.now }
+{
+    match plan.variable(name) {
+        Some(number) => match plan.variable_at(number) {
+            Some(declared) => Some((number, declared)),
+            None => None,
+        },
+        None => None,
+    }
 }
 
 /// The value of an expression as a variable of a kind keeps it.

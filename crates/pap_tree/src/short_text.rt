@@ -1,14 +1,14 @@
 //! A short text kept in place: what names of every kind stand on.
-ghost use Rattle.std.specs.Prelude.{◌≡◌, ◌↔◌, IsSome, IfSome, Some, nat_eq, refl, take};
+ghost use Rattle.std.specs.Prelude.{◌≡◌, ◌↔◌, [], ◌∷◌, IsSome, IfSome, Some, nat_eq, refl, take};
 ghost use Rattle.std.specs.Int.{from_be_bytes, w64};
 ghost use Rattle.std.specs.Ordering.{nat_cmp};
 ghost use Rattle.std.specs.Cmp.{partial_equiv_from_equiv};
-ghost use Rattle.std.specs.Cmp.Lexicographic.{pointwise, slice_cmp, nat_list_eq_equiv, nat_list_cmp_total, texts_po, texts_ties};
-ghost use Rattle.std.specs.Cmp.Rules.{hashing};
+ghost use Rattle.std.specs.Cmp.Lexicographic.{pointwise, slice_cmp, bytes_decides};
+ghost use Rattle.std.specs.Cmp.Lexicographic.{nat_list_eq_equiv, nat_list_cmp_total, texts_po, texts_ties};
 ghost use Rattle.std.specs.Fmt.{debug_str};
-ghost use Rattle.std.specs.Hash as fed;
-ghost use Rattle.std.proofs.Common.{rules};
+ghost use Rattle.std.proofs.Common.{ap};
 ghost use Rattle.pap_tree.specs.ShortText.{IsShortText};
+ghost use Rattle.pap_tree.specs.Padded.{padded};
 
 use std::cmp::Ordering;
 use std::hash::{Hash, Hasher};
@@ -131,12 +131,13 @@ impl Ord for ShortText {
 }
 
 impl Hash for ShortText {
-    ghost hash_input = { λ s. fed.slice fed.u8 s };
+    ghost hash_input = { λ s. padded s ∷ [] };
 
-    ghost respects_eq = { Prim.search (hashing, rules) };
+    ghost respects_eq = { λ s t h. ap (λ bs. padded bs ∷ []) ((bytes_decides s t).0 h) };
 
+    /// Writes the whole array at once: a hasher then takes many bytes a step, and no step depends on the length.
     fn hash<H: Hasher>(&self, state: &mut H) {
-        self.bytes().hash(state);
+        state.write(&self.bytes);
     }
 }
 

@@ -1,37 +1,43 @@
 //! The hashes by which the names of a flowchart are looked up.
 
-use pap_tree::{Declared, PlanText};
-use std::hash::{BuildHasher, DefaultHasher, Hash};
+use pap_tree::{Declared, Name, PlanText};
+use std::hash::{BuildHasher, DefaultHasher, FoldHasher, Hasher};
 
-/// What makes the hashers of a flowchart's names. Each begins with a state into which all its declared names and methods
-/// were written, so that with each name that a file changes the hashes of all change. That is meant to keep a file from
-/// choosing names that collide; no clause says so.
+/// A byte that no name has. It stands behind each name that is written.
+const END_OF_NAME: u8 = 0;
+
+/// What makes the hashers of a flowchart's names. They are quick, but whoever knows the state that one begins with can compute
+/// names that collide. So each begins with a state into which a SipHash of all declared names and methods was written: with each
+/// name that a file changes the hashes of all change. That is meant to keep a file from choosing names that collide; no clause
+/// says so.
 #[derive(Clone, Copy)]
 pub(crate) struct NameHashes {
-    first: DefaultHasher,
+    first: FoldHasher,
 }
 
 impl NameHashes {
     /// For the names of a plan.
     pub fn of_plan(plan: &PlanText) -> NameHashes {
-        let mut first = DefaultHasher::new();
-        write_names(&mut first, &plan.inputs);
-        write_names(&mut first, &plan.outputs);
-        write_names(&mut first, &plan.internals);
-        write_names(&mut first, &plan.constants);
+        let mut all = DefaultHasher::new();
+        write_names(&mut all, &plan.inputs);
+        write_names(&mut all, &plan.outputs);
+        write_names(&mut all, &plan.internals);
+        write_names(&mut all, &plan.constants);
         for method in &plan.methods {
-            method.name.hash(&mut first);
+            write_name(&mut all, &method.name);
         }
+        let mut first = FoldHasher::default();
+        first.write_u64(all.finish());
         NameHashes { first }
     }
 }
 
 impl BuildHasher for NameHashes {
-    type Hasher = DefaultHasher;
+    type Hasher = FoldHasher;
 
     ghost build_hasher = { λ hashes. hashes.first };
 
-    fn build_hasher(&self) -> DefaultHasher {
+    fn build_hasher(&self) -> FoldHasher {
         self.first
     }
 }
@@ -39,6 +45,12 @@ impl BuildHasher for NameHashes {
 /// Writes the names of declarations into a hasher.
 fn write_names(hasher: &mut DefaultHasher, declared: &[Declared]) {
     for one in declared {
-        one.name.hash(hasher);
+        write_name(hasher, &one.name);
     }
+}
+
+/// Writes a name into a hasher, so that no two lists of names are written alike.
+fn write_name(hasher: &mut DefaultHasher, name: &Name) {
+    hasher.write(name.bytes());
+    hasher.write_u8(END_OF_NAME);
 }

@@ -65,34 +65,76 @@ pub(crate) fn no_tallies(alloc: Global, counts: &[usize]) -> Result<Vec<MethodTa
     Ok(methods)
 }
 
-/// Counts the steps of the run of a number.
+/// Counts the steps of the run of a number. Most steps are of the same method as the step before, so a method is looked up by its
+/// name only where another one begins or goes on.
 pub(crate) fn count_steps(plan: &Typed, methods: &mut [MethodTally], run: u64, steps: &[TraceStep])
     ensures { methods.new ≡ fold (after_step (flowchart_of plan.now) run) methods.old steps.now }
 {
+    let mut last = NumberedMethod::of(plan, Name::main());
     for step in steps {
-        count_step(plan, methods, run, step);
+        last = count_step(plan, last, methods, run, step);
     }
 }
 
-/// Counts a step of the run of a number.
-fn count_step(plan: &Typed, methods: &mut [MethodTally], run: u64, step: &TraceStep)
-    ensures { methods.new ≡ after_step (flowchart_of plan.now) run methods.old step.now }
+/// Counts a step of the run of a number, and answers its method; `last` may be that of the step before.
+fn count_step(
+    plan: &Typed,
+    last: NumberedMethod,
+    methods: &mut [MethodTally],
+    run: u64,
+    step: &TraceStep,
+) -> NumberedMethod
+    requires { last.number ≡ numbered (flowchart_of plan.now) last.name }
+    ensures counted { methods.new ≡ after_step (flowchart_of plan.now) run methods.old step.now }
+    ensures number { result.number ≡ numbered (flowchart_of plan.now) result.name }
 {
     let (name, statement) = place_of(step);
-    if let Some(method) = method_number(plan, &name) {
-        touch_method(methods, method, statement as usize, run, step);
+    let method = last.or_named(plan, name);
+    if let Some(number) = method.number {
+        touch_method(methods, number, statement as usize, run, step);
     }
+    method
 }
 
 /// The method and the number of a step's statement.
-fn place_of(step: &TraceStep) -> (Name, u32)
-    ensures name { result.0 ≡ step_name step.now }
+fn place_of(step: &TraceStep) -> (&Name, u32)
+    ensures name { result.0.now ≡ step_name step.now }
     ensures statement { result.1 ≡ step_statement step.now }
 {
     match step {
         TraceStep::Set { method, stmt, .. }
         | TraceStep::Test { method, stmt, .. }
-        | TraceStep::Enter { method, stmt, .. } => (*method, *stmt),
+        | TraceStep::Enter { method, stmt, .. } => (method, *stmt),
+    }
+}
+
+/// A method's name, with its number if the plan has the method.
+#[derive(Clone, Copy)]
+struct NumberedMethod {
+    name: Name,
+    number: Option<usize>,
+}
+
+impl NumberedMethod {
+    /// The method of a name.
+    fn of(plan: &Typed, name: Name) -> NumberedMethod
+        ensures name { result.name ≡ name }
+        ensures number { result.number ≡ numbered (flowchart_of plan.now) name }
+    {
+        let number = method_number(plan, &name);
+        NumberedMethod { name, number }
+    }
+
+    /// The method of a name, which is looked up only where it isn't this one's.
+    fn or_named(self, plan: &Typed, name: &Name) -> NumberedMethod
+        requires { self.number ≡ numbered (flowchart_of plan.now) self.name }
+        ensures name { result.name ≡ name.now }
+        ensures number { result.number ≡ numbered (flowchart_of plan.now) name.now }
+    {
+        if self.name == *name {
+            return self;
+        }
+        NumberedMethod::of(plan, *name)
     }
 }
 

@@ -1,25 +1,18 @@
-use Rattle.std.proofs.Common.{ap, ◌∙◌}
+use Rattle.std.proofs.Common.{ap, sym, ◌∙◌}
 use Rattle.std.specs.Option.{option_map_or}
 use Rattle.pap_types.specs.Scopes.{kept_as}
-use Rattle.pap_types.specs.private.ScopeViews.{scope_in}
-use Rattle.month_trace.proofs.PutLemmas.{variable_of, not_declared, put_kept}
+use Rattle.month_trace.proofs.PutLemmas.{put_kept}
 use Rattle.month_trace.proofs.values.put.Goals as goal
-use Rattle.month_trace.proofs.values.put.Goals.{in-Some-declaration, in-None}
 
-pub unreachable-requires : goal.unreachable-requires
-unreachable-requires c =
-    not_declared (scope_in c.args.plan.now) c.args.target.now c.requires.fits.target.declaration
-    c.requires.fits.target.declared c.in_default.ensures
+pub returns-clause-value : goal.returns-clause-value
+returns-clause-value c =
+    let a = c.args.value in
+    c.kept_as-kept.ensures ∙ ap (λ o. option_map_or (λ d. kept_as d.kind a) o a) c.in-Some.ensures.declared
 
 pub returns-clause-values : goal.returns-clause-values
 returns-clause-values c =
     let p = c.args.plan.now in
-    let x = c.args.target.now in
     let a = c.args.value in
-    let found = variable_of (scope_in p) x c.in-Some.number c.in-Some.ensures in
-    put_kept p c.args.values.now x a c.match-declaration.kept c.in-Some.number c.requires.values.sized c.in-Some.ensures
-    (elim c.match-declaration.branch [
-      | in-Some-declaration w ↦ w.kept-is ∙ w.kept_as-kept.ensures ∙ ap
-          (λ o. option_map_or (λ d. kept_as d.kind a) o a) (w.in-Some-declaration.ensures ∙ found)
-      | in-None w ↦ w.kept-is ∙ ap (λ o. option_map_or (λ d. kept_as d.kind a) o a) (w.in-None.ensures ∙ found)
-    ])
+    put_kept p c.args.values.now c.args.target.now a c.kept_as-kept.result c.in-Some.number c.requires.values.sized
+    (sym c.in-Some.ensures.number)
+    (c.kept_as-kept.ensures ∙ ap (λ o. option_map_or (λ d. kept_as d.kind a) o a) c.in-Some.ensures.declared)
