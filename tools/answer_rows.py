@@ -91,6 +91,8 @@ def written_out(asked):
         piece = part[times.end():] if times else part
         for written, meant in [("\\n", "\n"), ("\\r", "\r"), ("\\t", "\t")]:
             piece = piece.replace(written, meant)
+        # A byte that isn't UTF-8 is a lone surrogate until it is written.
+        piece = re.sub(r"\\x([89a-f][0-9a-f])", lambda byte: chr(0xDC00 + int(byte[1], 16)), piece)
         count = int(times[1]) if times else 1
         pieces.append("".join(piece.replace("{n}", f"{n:03}") for n in range(count)) if "{n}" in piece else piece * count)
     return "".join(pieces)
@@ -116,7 +118,7 @@ def lines_of(written):
 def answered(programs, row):
     """The row with what comes."""
     asked = written_out("\n".join(row.asked))
-    files = {name: filled(text, asked).encode() for name, text in row.table.texts.items()}
+    files = {name: filled(text, asked).encode("utf-8", "surrogateescape") for name, text in row.table.texts.items()}
     script = files.pop("stdin", b"")
     words, _, unseen = filled(row.table.words, asked).partition(" 2> ")
     with tempfile.TemporaryDirectory(prefix="papcalc-rows-") as folder:

@@ -34,7 +34,7 @@ fn column_number(before: &[u8]) -> usize
 }
 
 /// Where the last line of some bytes begins.
-fn line_start(before: &[u8]) -> usize
+pub(crate) fn line_start(before: &[u8]) -> usize
     ensures within { result ≤ length before.now }
     ensures start { drop result before.now ≡ after_last is_line_feed before.now }
 {

@@ -7,8 +7,10 @@ ghost use Rattle.plain_words.specs.Refusals.{IsPlaceOfFault, IsPlaceOfExcess};
 ghost use Rattle.plain_words.specs.private.StopViews.{StopsAs};
 ghost use Rattle.plain_words.specs.private.FoundViews.{place_of, HasTag, IsExcessByte};
 
+use crate::counting::line_number;
 use crate::encoding::is_utf16;
 use crate::found::Found;
+use crate::misplaced::{Misplaced, misplaced_at};
 use crate::place::TextFile;
 use crate::quotes::{first_line, write_line, write_quoted};
 use crate::stops::{TagStop, begins_with_sign, tag_stop};
@@ -31,12 +33,7 @@ pub(crate) fn find_element(
 {
     let found = match fault {
         ReadFault::Text { at } => find_text(plan, *at, told)?,
-        ReadFault::Element { at } => {
-            let text = text_from(plan.bytes, *at);
-            write!(told, "{fault}")?;
-            write_line(told, text)?;
-            Found::in_plan(Some(*at)).with_help(misplaced_help(text))
-        }
+        ReadFault::Element { at } => find_misplaced(plan, *at, told)?,
         ReadFault::Attribute { at } => find_attribute(plan, *at, told)?,
         ReadFault::Many { which } => {
             write!(told, "{fault}")?;
@@ -61,12 +58,18 @@ fn find_text(plan: TextFile<'_>, at: usize, told: &mut String) -> Result<Found, 
         write_line(told, text)?;
         return Ok(found.with_help(help));
     }
-    stop.write(told)?;
+    stop.write(told, line_before(plan.bytes, stop.left))?;
     if stop.value.is_some() {
         told.push_str(", in the tag ")?;
         write_quoted(told, first_line(text), 0)?;
     }
     Ok(found.with_help(stop.help()))
+}
+
+/// The line of a file in which begins what is left of it.
+fn line_before(file: &[u8], left: &[u8]) -> usize {
+    let count = file.len().saturating_sub(left.len());
+    line_number(file.get(..count).unwrap_or(file))
 }
 
 /// The byte at which what isn't read is shown: in a tag that of a sign in a value that would have to be escaped, and else the first.
@@ -83,6 +86,21 @@ fn stop_byte(plan: &[u8], at: usize, stop: TagStop<'_>) -> usize
     } else {
         at
     }
+}
+
+/// Where a tag may not stand, or the file ends too early; why is appended.
+fn find_misplaced(plan: TextFile<'_>, at: usize, told: &mut String) -> Result<Found, AllocError>
+    ensures { IfOk result (λ found. place_of found ≡ in_plan (Some at)) }
+{
+    let text = text_from(plan.bytes, at);
+    let misplaced: Misplaced = misplaced_at(*told.allocator(), plan.bytes, at)?;
+    misplaced.write(told, plan.bytes, at)?;
+    write_line(told, text)?;
+    let tag = Found::in_plan(Some(at));
+    Ok(Found {
+        also: misplaced.also(text),
+        ..tag.with_help(misplaced.help(text))
+    })
 }
 
 /// Where a tag has an attribute that isn't as its element needs it; what is wrong with it is appended.
@@ -128,49 +146,9 @@ fn text_help(text: &[u8]) -> Option<&'static str> {
     }
 }
 
-/// What helps where a tag may not stand, or the file ends too early.
-fn misplaced_help(text: &[u8]) -> &'static str {
-    if text.is_empty() {
-        "the file ends too early; an end tag or a needed element is missing"
-    } else if text.starts_with(b"</") {
-        "the end tag isn't that of the open element, or that element lacks something that it needs (a PAP its METHODS, METHODS a MAIN, OUTPUTS an OUTPUT, an IF its THEN)"
-    } else {
-        home_of(element_at(text))
-    }
-}
-
 /// The element with whose tag a text begins. `None` where the profile has none of its name.
 fn element_at(text: &[u8]) -> Option<Element> {
     Element::named(element_name(text))
-}
-
-/// Where an element may stand.
-fn home_of(element: Option<Element>) -> &'static str {
-    let Some(element) = element else {
-        return "there is no element of this name in the profile; for a loop write an EXECUTE for each turn, within IFs";
-    };
-    match element {
-        Element::Pap => "PAP stands once, as the root of the file",
-        Element::Interface | Element::Variables => "a PAP has one INTERFACE or VARIABLES",
-        Element::Inputs => "INPUTS stands at most once, in INTERFACE or VARIABLES",
-        Element::Outputs => "OUTPUTS stands in INTERFACE or VARIABLES, and has at least one OUTPUT",
-        Element::Internals => {
-            "INTERNALS stands at most once in the file, in PAP, INTERFACE or VARIABLES"
-        }
-        Element::Constants => "CONSTANTS stands at most once, in PAP",
-        Element::Methods => "METHODS stands once, in PAP, and has a MAIN",
-        Element::Input => "an INPUT stands in INPUTS, and has nothing inside",
-        Element::Output => "an OUTPUT stands in OUTPUTS, and has nothing inside",
-        Element::Internal => "an INTERNAL stands in INTERNALS, and has nothing inside",
-        Element::Constant => "a CONSTANT stands in CONSTANTS, and has nothing inside",
-        Element::Main => "MAIN stands once, in METHODS",
-        Element::Method => "a METHOD stands in METHODS",
-        Element::Eval | Element::Execute => {
-            "an EVAL or EXECUTE stands in MAIN, METHOD, THEN or ELSE, and has nothing inside"
-        }
-        Element::If => "an IF stands in MAIN, METHOD, THEN or ELSE, and has a THEN",
-        Element::Then | Element::Else => "an IF has one THEN, and behind it at most one ELSE",
-    }
 }
 
 /// The text from a place on.

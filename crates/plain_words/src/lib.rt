@@ -1,18 +1,23 @@
 //! What is wrong with a plan, its range file or the inputs of a run, in plain words for the one who writes them.
 #![tactic(auto)]
 
+mod bounds;
 mod counting;
 mod elements;
 mod encoding;
+mod entry_lines;
 mod expressions;
 mod found;
 mod group;
 mod help;
+mod homes;
 mod kinds;
 mod lines;
 mod methods;
+mod misplaced;
 mod nodes;
 mod ordinal;
+mod other_entries;
 mod place;
 mod plan;
 mod quotes;
@@ -28,6 +33,7 @@ mod table;
 mod table_row;
 mod tags;
 mod tokens;
+mod toml_causes;
 
 pub use counting::position;
 pub use lines::one_line;

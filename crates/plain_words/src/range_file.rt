@@ -1,20 +1,20 @@
 //! Where a range file is refused, by itself or beside its plan.
-ghost use Rattle.std.specs.Prelude.{◌≡◌, ◌≤◌, IfOk, true, false};
-ghost use Rattle.scaled_decimal.specs.Limits.{most_places};
+ghost use Rattle.std.specs.Prelude.{◌≡◌, IfOk, true, false};
 ghost use Rattle.plain_words.specs.Refusals.{IsPlaceOfLimits};
 ghost use Rattle.plain_words.specs.private.FoundViews.{place_of, IsOfPlan, IsOfRanges};
 ghost use Rattle.plain_words.specs.private.SiteViews.{declares_input};
 
-use crate::encoding::is_utf16;
+use crate::bounds::{BoundFault, write_bounds_fault, write_fault};
+use crate::entry_lines::{entry_byte, key_byte, section_byte};
 use crate::found::Found;
+use crate::other_entries::{EntryName, write_others};
 use crate::place::TextFile;
-use crate::section::{SECTIONS, Section, entry_byte, section_byte};
+use crate::section::{SECTIONS, Section};
 use crate::sites::{Source, declaration_of, declares_input, named_byte};
-use limits_file::{Label, LimitsFault, bound_at, places_at};
-use pap_tree::{Kind, Name, is_kept_at};
-use scaled_decimal::{Dec, MOST_PLACES};
+use crate::toml_causes::write_cause;
+use limits_file::{Label, LimitsFault};
+use pap_tree::{Kind, Name};
 use std::alloc::AllocError;
-use std::cmp::Ordering;
 use toml::{Table, Value};
 
 /// Where a range file is refused by itself; what is wrong is appended.
@@ -48,7 +48,9 @@ fn find_key(limits: TextFile<'_>, label: &Label, told: &mut String) -> Result<Fo
             {
                 let value = entries.get(name);
                 section.write_fault(told, name, value)?;
-                let at = entry_byte(limits.bytes, section, name);
+                write_others(told, limits.bytes, &table, EntryName { section, name })?;
+                let key = section.fault_key(name, value);
+                let at = key_byte(limits.bytes, section, name, key);
                 return Ok(Found::in_ranges(at).with_help(section.help(name, value)));
             }
         }
@@ -116,16 +118,29 @@ fn find_bounds(limits: TextFile<'_>, label: &Label, told: &mut String) -> Result
 {
     let alloc = *told.allocator();
     let name = label.as_str();
-    let at = entry_byte(limits.bytes, Section::Input, name);
     write!(told, "in the entry [input.{name}] ")?;
-    let help = match toml::table_from_slice(alloc, limits.bytes) {
-        Ok(table) => match input_entry(&table, name) {
-            Some(entry) => write_bounds_fault(told, entry)?,
-            None => write_help(told, "a bound breaks its rule", "correct the entry")?,
-        },
-        Err(_) => write_help(told, "a bound breaks its rule", "correct the entry")?,
+    let fault: BoundFault = match toml::table_from_slice(alloc, limits.bytes) {
+        Ok(table) => write_bounds_in(told, limits.bytes, &table, name)?,
+        Err(_) => write_fault(told, None, "a bound breaks its rule", "correct the entry")?,
     };
-    Ok(Found::in_ranges(at).with_help(help))
+    let at = key_byte(limits.bytes, Section::Input, name, fault.key);
+    Ok(Found::in_ranges(at).with_help(fault.help))
+}
+
+/// Appends what is wrong with the bounds of an input in the table of a range file, and which other entries have a fault.
+fn write_bounds_in(
+    told: &mut String,
+    limits: &[u8],
+    table: &Table,
+    name: &str,
+) -> Result<BoundFault, AllocError> {
+    let fault = match input_entry(table, name) {
+        Some(entry) => write_bounds_fault(told, entry)?,
+        None => write_fault(told, None, "a bound breaks its rule", "correct the entry")?,
+    };
+    let section = Section::Input;
+    write_others(told, limits, table, EntryName { section, name })?;
+    Ok(fault)
 }
 
 /// The entry of an input.
@@ -135,78 +150,6 @@ fn input_entry<'a>(table: &'a Table, name: &str) -> Option<&'a Table> {
         .as_table()?
         .get(name)?
         .as_table()
-}
-
-/// What helps against a bound that is none of the numbers that may stand there.
-const BOUND_HELP: &str =
-    "write a whole number, or a decimal in quotation marks with at most 30 digits after its point and at most 10^37 without it";
-
-/// Appends what is wrong, and gives what helps.
-fn write_help(
-    told: &mut String,
-    wrong: &str,
-    help: &'static str,
-) -> Result<&'static str, AllocError> {
-    told.push_str(wrong)?;
-    Ok(help)
-}
-
-/// Appends what is wrong with the bounds of an input's entry, and gives what helps.
-fn write_bounds_fault(told: &mut String, entry: &Table) -> Result<&'static str, AllocError> {
-    let Some(low) = bound_at(entry, "low") else {
-        return write_help(told, "low isn't a number that may stand there", BOUND_HELP);
-    };
-    let Some(high) = bound_at(entry, "high") else {
-        return write_help(told, "high isn't a number that may stand there", BOUND_HELP);
-    };
-    match places_at(entry) {
-        Some(places) if places <= MOST_PLACES => write_range_fault(told, low, high, places),
-        _ => write_help(
-            told,
-            "places isn't from 0 to 30",
-            "places is the number of digits that a value may have after its point",
-        ),
-    }
-}
-
-/// Appends what is wrong with a range of so many places, and gives what helps. Where nothing is, there are too many inputs.
-fn write_range_fault(
-    told: &mut String,
-    low: Dec,
-    high: Dec,
-    places: u8,
-) -> Result<&'static str, AllocError>
-    requires { places ≤ most_places }
-{
-    if low.compare(high) == Ordering::Greater {
-        write!(told, "low, which is {low}, is above high, which is {high}")?;
-        return Ok("exchange them, or correct one of them");
-    }
-    if !is_kept_at(low, places) {
-        return write_places_fault(told, "low", low, places);
-    }
-    if !is_kept_at(high, places) {
-        return write_places_fault(told, "high", high, places);
-    }
-    write_help(
-        told,
-        "nothing is wrong but that it is the 257th input",
-        "a range file has at most 256 inputs: take out what the flowchart doesn't have",
-    )
-}
-
-/// Appends that a bound has no such number of places, and gives what helps.
-fn write_places_fault(
-    told: &mut String,
-    key: &str,
-    bound: Dec,
-    places: u8,
-) -> Result<&'static str, AllocError> {
-    write!(
-        told,
-        "{key}, which is {bound}, has more digits after its point than places, which is {places}, or is beyond 10^37 with so many"
-    )?;
-    Ok("write more places, or a bound that has no more")
 }
 
 /// Where a text is no TOML; what its reader says is appended.
@@ -222,12 +165,7 @@ fn find_toml(limits: TextFile<'_>, told: &mut String) -> Result<Found, AllocErro
             };
             let message = error.message();
             write!(told, ": {message}")?;
-            if is_utf16(limits.bytes) {
-                told.push_str(", since it is written in UTF-16")?;
-            }
-            if limits.bytes.starts_with(b"<") {
-                told.push_str(", and it begins as a flowchart's file does, which comes first")?;
-            }
+            write_cause(told, limits.bytes, span.start)?;
             Ok(Found::in_ranges(Some(span.start)))
         }
     }

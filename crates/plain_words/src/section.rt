@@ -1,11 +1,12 @@
-//! The sections of a range file, and the headings of their entries.
+//! The sections of a range file, and what is wrong with their entries.
+use crate::bounds::are_sound;
 use limits_file::{unsuited_binding_key, unsuited_input_key};
-use pap_tree::{Name, is_word};
+use pap_tree::Name;
 use std::alloc::AllocError;
 use toml::{Table, Value};
 
 /// A section of a range file.
-#[derive(Clone, Copy)]
+#[derive(Clone, Copy, PartialEq, Eq)]
 pub(crate) enum Section {
     /// What inputs carry over.
     Bind,
@@ -51,13 +52,40 @@ impl Section {
 
     /// What helps against a fault of the value of an entry of a name.
     pub(crate) fn help(self, name: &str, value: Option<&Value>) -> &'static str {
-        let Some(Value::Table(_)) = value else {
+        let Some(Value::Table(entry)) = value else {
             return self.form();
         };
-        if Name::read(name.as_bytes()).is_some() {
-            self.rule()
-        } else {
-            "an entry has the name of an input: a letter or _, and then letters, digits and _"
+        if Name::read(name.as_bytes()).is_none() {
+            return "an entry has the name of an input: a letter or _, and then letters, digits and _";
+        }
+        match self.unsuited_key(entry) {
+            Some(key) => match self.value_fault(key, entry) {
+                ValueFault::Counts => "take output out",
+                ValueFault::Unquoted => "write it in quotation marks, as high = \"9.5\"",
+                ValueFault::Other => self.rule(),
+            },
+            None => self.rule(),
+        }
+    }
+
+    /// The key of an entry of a name at which its fault is, where it is at one.
+    pub(crate) fn fault_key<'a>(self, name: &str, value: Option<&'a Value>) -> Option<&'a str> {
+        match value {
+            Some(Value::Table(entry)) if Name::read(name.as_bytes()).is_some() => {
+                self.unsuited_key(entry)
+            }
+            _ => None,
+        }
+    }
+
+    /// What is wrong with a key of an entry that isn't allowed there, or with its value.
+    fn value_fault(self, key: &str, entry: &Table) -> ValueFault {
+        match self {
+            Section::Bind if key == "output" && counts(entry) => ValueFault::Counts,
+            Section::Input if (key == "low" || key == "high") && is_unquoted(entry, key) => {
+                ValueFault::Unquoted
+            }
+            _ => ValueFault::Other,
         }
     }
 
@@ -74,6 +102,22 @@ impl Section {
         match self {
             Section::Bind => key == "kind" || key == "output",
             Section::Input => key == "low" || key == "high" || key == "places",
+        }
+    }
+
+    /// Whether an entry of a name has a fault.
+    pub(crate) fn is_faulty(self, name: &str, value: &Value) -> bool {
+        let Value::Table(entry) = value else {
+            return true;
+        };
+        if Name::read(name.as_bytes()).is_none() || self.unsuited_key(entry).is_some() {
+            return true;
+        }
+        match self {
+            Section::Bind => {
+                entry.get("kind").is_none() || (!counts(entry) && entry.get("output").is_none())
+            }
+            Section::Input => !are_sound(entry),
         }
     }
 
@@ -98,10 +142,10 @@ impl Section {
             );
         }
         match self.unsuited_key(entry) {
-            Some(key) if self.has_key(key) => write!(
-                told,
-                "in the entry [{section}.{name}] the value of {key} isn't of its form"
-            ),
+            Some(key) if self.has_key(key) => {
+                write!(told, "in the entry [{section}.{name}] ")?;
+                self.write_value_fault(told, key, entry)
+            }
             Some(key) => {
                 write!(
                     told,
@@ -109,6 +153,20 @@ impl Section {
                 )
             }
             None => self.write_lacking(told, name, entry),
+        }
+    }
+
+    /// Appends what is wrong with the value of a key of an entry.
+    fn write_value_fault(
+        self,
+        told: &mut String,
+        key: &str,
+        entry: &Table,
+    ) -> Result<(), AllocError> {
+        match self.value_fault(key, entry) {
+            ValueFault::Counts => told.push_str("kind is \"count\", which has no output"),
+            ValueFault::Unquoted => write!(told, "{key} is a decimal without quotation marks"),
+            ValueFault::Other => write!(told, "the value of {key} isn't of its form"),
         }
     }
 
@@ -135,101 +193,26 @@ impl Section {
     }
 }
 
-/// In which table of a range file a line stands.
+/// What is wrong with the value of a key of an entry.
 #[derive(Clone, Copy)]
-enum Within {
-    /// In none: before all headings.
-    File,
-    /// In the table of a section, as below `[input]`.
-    Section,
-    /// In another table.
+enum ValueFault {
+    /// An output beside the kind `count`.
+    Counts,
+    /// A bound that is a decimal without quotation marks.
+    Unquoted,
+    /// Another value than the key may have.
     Other,
 }
 
-/// The byte of an entry: of its heading, as `[input.RE4]` or `[input."R 4"]`, of its line below the heading `[input]`, or of its line
-/// `input.RE4 = ..` before all headings.
-pub(crate) fn entry_byte(limits: &[u8], section: Section, entry: &str) -> Option<usize> {
-    let name = section.name().as_bytes();
-    let mut within = Within::File;
-    let mut at = 0usize;
-    for text in limits.split(|byte| *byte == b'\n') {
-        let line = text.trim_ascii_start();
-        if let Some(key) = entry_key(line, within, name)
-            && first_key(key) == entry.as_bytes()
-        {
-            return Some(at);
-        }
-        within = within_after(line, within, name);
-        at = at.saturating_add(text.len()).saturating_add(1);
-    }
-    None
-}
-
-/// What a line has from the key of an entry of a section on, if it has one.
-fn entry_key<'a>(line: &'a [u8], within: Within, section: &[u8]) -> Option<&'a [u8]> {
-    if let Some(heading) = line.strip_prefix(b"[") {
-        return heading
-            .trim_ascii_start()
-            .strip_prefix(section)?
-            .strip_prefix(b".");
-    }
-    match within {
-        Within::File => line.strip_prefix(section)?.strip_prefix(b"."),
-        Within::Section => Some(line),
-        Within::Other => None,
+/// Whether the kind of an entry is `count`.
+fn counts(entry: &Table) -> bool {
+    match entry.get("kind") {
+        Some(Value::String(kind)) => kind.as_str() == "count",
+        _ => false,
     }
 }
 
-/// In which table the next line stands.
-fn within_after(line: &[u8], within: Within, section: &[u8]) -> Within {
-    let Some(heading) = line.strip_prefix(b"[") else {
-        return within;
-    };
-    match heading.trim_ascii_start().strip_prefix(section) {
-        Some(rest) if rest.trim_ascii_start().starts_with(b"]") => Within::Section,
-        _ => Within::Other,
-    }
-}
-
-/// The key with which a text begins: what stands in its quotation marks, or its letters, digits, `_` and `-`.
-fn first_key(text: &[u8]) -> &[u8] {
-    match text {
-        [quote @ (b'"' | b'\''), quoted @ ..] => front_before(quoted, *quote),
-        _ => bare_key(text),
-    }
-}
-
-/// The byte at which the first line does that begins with a key of the range file itself, as `[inputs.RE4]` does with `inputs`,
-/// or `other = 1` with `other`.
-pub(crate) fn section_byte(limits: &[u8], key: &[u8]) -> Option<usize> {
-    let mut at = 0usize;
-    for text in limits.split(|byte| *byte == b'\n') {
-        let word = text.trim_ascii_start();
-        let word = match word.strip_prefix(b"[") {
-            Some(inner) => inner.strip_prefix(b"[").unwrap_or(inner),
-            None => word,
-        };
-        if let Some(rest) = word.strip_prefix(key)
-            && !rest.first().is_some_and(|byte| is_word(*byte))
-        {
-            return Some(at);
-        }
-        at = at.saturating_add(text.len()).saturating_add(1);
-    }
-    None
-}
-
-/// What stands in a text before the first byte of a value, or all of it.
-fn front_before(text: &[u8], end: u8) -> &[u8] {
-    let count = text.iter().take_while(|byte| **byte != end).count();
-    &text[..count]
-}
-
-/// The letters, digits, `_` and `-` with which a text begins.
-fn bare_key(text: &[u8]) -> &[u8] {
-    let count = text
-        .iter()
-        .take_while(|byte| is_word(**byte) || **byte == b'-')
-        .count();
-    &text[..count]
+/// Whether the value of a key is a decimal without quotation marks.
+fn is_unquoted(entry: &Table, key: &str) -> bool {
+    matches!(entry.get(key), Some(Value::Float(_)))
 }

@@ -6,10 +6,11 @@ ghost use Rattle.plain_words.specs.Places.{files_of};
 ghost use Rattle.plain_words.specs.States.{digits_noun, outside_text, input_value_text, state_text, state_help, IsPlaceOfState, SaysState};
 ghost use Rattle.plain_words.specs.private.FoundViews.{place_of};
 
+use crate::entry_lines::entry_byte;
 use crate::found::Found;
 use crate::place::TextFile;
 use crate::reason::reason_line;
-use crate::section::{Section, entry_byte};
+use crate::section::Section;
 use crate::sites::{Outline, named_byte};
 use limits_file::InputLimit;
 use pap_tree::Name;

@@ -83,8 +83,8 @@ pub(crate) fn begins_with_sign(text: &[u8], left: &[u8]) -> bool
 }
 
 impl TagStop<'_> {
-    /// Appends why a tag stops there, and what stands there.
-    pub(crate) fn write(self, out: &mut String) -> Result<(), AllocError> {
+    /// Appends why a tag stops there, in this line of its file, and what stands there.
+    pub(crate) fn write(self, out: &mut String, line: usize) -> Result<(), AllocError> {
         let Some(front) = self.value else {
             out.push_str("the tag isn't well formed")?;
             return write_line(out, self.left);
@@ -92,9 +92,12 @@ impl TagStop<'_> {
         out.push_str("the value of the attribute ")?;
         write_quoted(out, front.name, 0)?;
         match self.left.first() {
-            Some(b'<') if !begins_with_sign(front.text, self.left) => out.push_str(
-                " has no closing quotation mark in its line",
-            )?,
+            Some(b'<') if !begins_with_sign(front.text, self.left) => {
+                write!(
+                    out,
+                    " has no closing quotation mark before the < of line {line}"
+                )?
+            }
             Some(b'<') => out.push_str(" has a < that isn't escaped")?,
             Some(_) => out.push_str(" has a & that begins no escape")?,
             None => out.push_str(" has no closing quotation mark")?,
