@@ -79,10 +79,14 @@ for word in ["run", "--help"]:
 folder = os.open("examples", os.O_RDONLY)
 done = subprocess.run([program, "run"], stdin=folder, capture_output=True, timeout=300)
 check("an input that can't be read", (done.returncode, done.stdout) == (4, b""))
+UNREAD = "papcalc: standard input can't be read: it is {}; give it a script, as papcalc run < SCRIPT\n"
+check("why a folder can't be read", done.stderr.decode() == UNREAD.format("a folder"))
+done = subprocess.run([program, "run"], preexec_fn=lambda: os.close(0), capture_output=True, timeout=300)
+check("a closed input", (done.returncode, done.stdout, done.stderr.decode()) == (4, b"", UNREAD.format("closed")))
 check("a script of the greatest length", run(b"work\n" + b"\n" * 67_108_859) == (0, b"work 0 0\n"))
 check("a script of one byte more", run(b"work\n" + b"\n" * 67_108_860) == (7, b"work 0 0\n"))
 check("a line that is too long is answered once", run(b"#" * 65_537 + b"\nwork\n") == (1, b"refused line LineLong\nwork 0 0\n"))
-TOLD = "stdin:{}: the first word is no command: plan, drop, add, change, withdraw, load, report, work, trace, file, owed, open or try; a script has no byte order mark before its first word\n"
+TOLD = "stdin:{}: `ab` is not a command; there are plan, drop, add, change, withdraw, load, report, work, trace, file, owed, open and try\n"
 for word in ["run", "save"]:
     done = subprocess.run([program, word], input=b"# ab\n\n" + b"ab\nwork\n" * 30, capture_output=True, text=False, timeout=300)
     said = "".join(TOLD.format(3 + 2 * number) for number in range(30))
@@ -93,16 +97,16 @@ for word in ["run", "save"]:
     check(f"the refused lines of {word} before a file that isn't there are told", done.returncode == 3 and done.stderr.decode() == said)
 with tempfile.TemporaryDirectory() as folder:
     TABLES = [
-        ("employee;month;day;PAY\nanna;2026-01;2026-01-30;1\n", 1, "semicolons"),
-        ("employee,month,day,PAY\nanna,2026-01,2026-01-30,\"2500,55\"\n", 2, "2500.55"),
+        ("employee;month;day;PAY\nanna;2026-01;2026-01-30;1\n", "1:1", "semicolons"),
+        ("employee,month,day,PAY\nanna,2026-01,2026-01-30,\"2500,55\"\n", "2:25", "2500.55"),
     ]
-    for text, line, helps in TABLES:
+    for text, place, helps in TABLES:
         table = os.path.join(folder, "table.csv")
         with open(table, "w", encoding="utf-8") as file:
             file.write(text)
         done = subprocess.run([program, "run"], input=f"load {table}\n".encode(), capture_output=True, timeout=300)
         first = done.stderr.decode().splitlines()[0]
-        check(f"a table with {text!r}", done.returncode == 1 and first.startswith(f"stdin:1: {table}:{line}: ") and helps in first)
+        check(f"a table with {text!r}", done.returncode == 1 and first.startswith(f"stdin:1: {table}:{place}: ") and helps in first)
     with open("examples/payroll_tax.xml", encoding="utf-8") as plan, open("examples/payroll_tax.toml", encoding="utf-8") as limits:
         FILES = {"plan.xml": plan.read(), "limits.toml": limits.read()}
     WRONG_FILES = [

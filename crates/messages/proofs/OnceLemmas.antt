@@ -1,17 +1,37 @@
 -- All messages that are read from one line have the same fields.
 use Rattle.std.proofs.Common.{◌≡◌, ℕ, ◌<◌, List, [], ◌++◌, length, take, drop, Option, None, Some, refl, sym, ap, subst, ◌∙◌, arith}
-use Rattle.std.specs.Prelude.{codes, option_copied}
+use Rattle.std.specs.Prelude.{codes, option_copied, slice_index}
 use Rattle.std.specs.Borrow.{Bor}
 use Rattle.std.specs.Fmt.{decimal}
 use Rattle.std.proofs.lemmas.List.{append-nil, append_cancel_left, drop_at, take_at}
 use Rattle.messages.specs.declared.message.Position.{Position}
+use Rattle.messages.specs.declared.message.Program.{Program}
+use Rattle.messages.specs.declared.message.Program.TheVariants.{Papcalc, PapAuthor}
 use Rattle.messages.specs.declared.message.Site.{Site}
-use Rattle.messages.specs.Fields.{BeginsWithFile, HasFile, HasNoPlace, HasScriptLine, HasSite, HaveOneReading, IsSmallPosition, site_parts}
-use Rattle.messages.specs.Lines.{behind_file, help_text, position_of, reason_words, script_text, site_text, unnumbered_words}
+use Rattle.messages.specs.Fields.{BeginsWithFile, HasFile, HasNoPlace, HasProgram, HasScriptLine, HasSite, HaveOneReading, IsSmallPosition, site_parts}
+use Rattle.messages.specs.Lines.{behind_file, help_text, position_of, program_text, reason_words, script_text, site_text, unnamed_words, unnumbered_words}
 use Rattle.messages.specs.Turns.{IsCutAtTurn, IsFirstTurn, IsTurn}
 use Rattle.messages.specs.private.Cuts.{IsFirstCut}
 use Rattle.messages.proofs.CutLemmas.{one_number}
 use Rattle.messages.proofs.ReadingLemmas.{line_cut, place_cut, place_file, script_number, script_parts, whole_cut, whole_file}
+
+-- ---- the name of a program
+
+-- the fourth byte tells the names of the programs apart
+no_both : (told words : List ℕ) → codes "papcalc: " ++ told ≡ codes "pap_author: " ++ words → ⊥
+no_both told words is = let fourth : 99 ≡ 95 = ap (λ (l : List ℕ). slice_index l 3) is in omega (arith, fourth)
+
+same_program : (line : List ℕ) (one other : Option Program) (told words : List ℕ) → line ≡ program_text one ++ told
+    → line ≡ program_text other ++ words → HasProgram line one → HasProgram line other → (one ≡ other) × (told ≡ words)
+same_program line None None told words is again has too = (refl, sym is ∙ again)
+same_program line None (Some program) told words is again has too = absurd (has program too)
+same_program line (Some program) None told words is again has too = absurd (too program has)
+same_program line (Some Papcalc) (Some Papcalc) told words is again has too =
+    (refl, append_cancel_left (codes "papcalc: ") told words (sym is ∙ again))
+same_program line (Some PapAuthor) (Some PapAuthor) told words is again has too =
+    (refl, append_cancel_left (codes "pap_author: ") told words (sym is ∙ again))
+same_program line (Some Papcalc) (Some PapAuthor) told words is again has too = absurd (no_both told words (sym is ∙ again))
+same_program line (Some PapAuthor) (Some Papcalc) told words is again has too = absurd (no_both words told (sym again ∙ is))
 
 -- ---- the line of a script
 
@@ -103,9 +123,11 @@ same_help wrong words (Some help) (Some second) is turn again =
 
 pub one_reading : HaveOneReading
 one_reading files line one other read again =
-    let script = same_script line one.script_line other.script_line (unnumbered_words one) (unnumbered_words other)
-    read.words again.words read.script_line again.script_line in
+    let program = same_program line one.program other.program (unnamed_words one) (unnamed_words other)
+    read.words again.words read.program again.program in
+    let script = same_script (unnamed_words one) one.script_line other.script_line (unnumbered_words one) (unnumbered_words other)
+    refl program.1 read.script_line (subst (λ l. HasScriptLine l other.script_line) (sym program.1) again.script_line) in
     let site = same_site files (unnumbered_words one) one.site other.site (reason_words one) (reason_words other) refl script.1
     read.site (subst (λ l. HasSite files l other.site) (sym script.1) again.site) in
     let help = same_help one.wrong.now other.wrong.now one.help other.help site.1 read.help again.help in
-    record { wrong = help.0; help = help.1; site = site.0; script_line = script.0 }
+    record { wrong = help.0; help = help.1; program = program.0; site = site.0; script_line = script.0 }

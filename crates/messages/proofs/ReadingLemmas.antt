@@ -6,10 +6,11 @@ use Rattle.std.specs.Borrow.{Bor}
 use Rattle.std.specs.Fmt.{decimal}
 use Rattle.messages.specs.declared.message.Message.{Message}
 use Rattle.messages.specs.declared.message.Position.{Position}
-use Rattle.messages.specs.Fields.{BeginsWithFile, BeginsWithPlace, BeginsWithScriptLine, HasNoPlace, HasSite, IsFreeOf, IsReadFrom}
-use Rattle.messages.specs.Lines.{behind_file, position_of, reason_words, script_text, site_text}
+use Rattle.messages.specs.declared.message.Program.TheVariants.{Papcalc, PapAuthor}
+use Rattle.messages.specs.Fields.{BeginsWithFile, BeginsWithPlace, BeginsWithScriptLine, HasNoPlace, HasProgram, HasScriptLine, HasSite, IsFreeOf, IsReadFrom}
+use Rattle.messages.specs.Lines.{behind_file, position_of, program_text, reason_words, script_text, site_text}
 use Rattle.messages.specs.Turns.{IsCutAtTurn}
-use Rattle.messages.specs.private.Cuts.{HasNoNumber, HasNoPosition, IsFirstCut, IsNumberCut, IsPositionCut, IsScriptCut, IsSiteCut, WriteNoNumber}
+use Rattle.messages.specs.private.Cuts.{HasNoNumber, HasNoPosition, IsFirstCut, IsNumberCut, IsPositionCut, IsProgramCut, IsScriptCut, IsSiteCut, WriteNoNumber}
 use Rattle.messages.proofs.CutLemmas.{cut_at_colon, cut_at_space, front_free, number_ends, one_number, only_cut}
 
 -- ---- a number and a mark
@@ -33,6 +34,17 @@ read_number_cut mark text digits rest number small cut is = record {
   small = small;
   parts = cut.parts ∙ ap (λ l. l ++ (mark ++ rest)) is;
 }
+
+-- ---- the name of a program
+
+no_program : (line : List ℕ) → ((rest : List ℕ) → line ≢ codes "papcalc: " ++ rest)
+    → ((rest : List ℕ) → line ≢ codes "pap_author: " ++ rest) → HasProgram line None
+no_program line none nor Papcalc begins = none begins.0 begins.1
+no_program line none nor PapAuthor begins = nor begins.0 begins.1
+
+pub program_other : (line : List ℕ) → ((rest : List ℕ) → line ≢ codes "papcalc: " ++ rest)
+    → ((rest : List ℕ) → line ≢ codes "pap_author: " ++ rest) → IsProgramCut line None line
+program_other line none nor = record { parts = refl; is = no_program line none nor }
 
 -- ---- the line of a script
 
@@ -190,14 +202,17 @@ known_file files told file rest cut known none =
 
 -- ---- all of a line
 
-pub read_from : (files : List (List ℕ)) (line told reason : List ℕ) (message : Message) → IsScriptCut line message.script_line told
+pub read_from : (files : List (List ℕ)) (line numbered told reason : List ℕ) (message : Message)
+    → IsProgramCut line message.program numbered → IsScriptCut numbered message.script_line told
     → IsSiteCut files told message.site reason → reason ≡ reason_words message → IsCutAtTurn message.wrong.now message.help
     → IsReadFrom files line message
-read_from files line told reason message script site words turn =
+read_from files line numbered told reason message program script site words turn =
     let is_told = site.parts ∙ ap (λ l. site_text message.site ++ l) words in
+    let is_numbered = script.parts ∙ ap (λ l. script_text message.script_line ++ l) is_told in
     record {
-      words = script.parts ∙ ap (λ l. script_text message.script_line ++ l) is_told;
-      script_line = script.is;
+      words = program.parts ∙ ap (λ l. program_text message.program ++ l) is_numbered;
+      program = program.is;
+      script_line = subst (λ l. HasScriptLine l message.script_line) is_numbered script.is;
       site = subst (λ l. HasSite files l message.site) is_told site.is;
       help = turn;
     }

@@ -3,8 +3,9 @@ use Rattle.std.specs.Prelude.{◌≡◌, ◌≢◌, ℕ, ◌<◌, ◌^◌, List,
 use Rattle.std.specs.declared.alloc.Global.{Global}
 use Rattle.messages.specs.declared.message.Message.{Message}
 use Rattle.messages.specs.declared.message.Position.{Position}
+use Rattle.messages.specs.declared.message.Program.{Program}
 use Rattle.messages.specs.declared.message.Site.{Site}
-use Rattle.messages.specs.Lines.{behind_file, message_words, script_text, unnumbered_words}
+use Rattle.messages.specs.Lines.{behind_file, message_words, program_front, script_text, unnamed_words, unnumbered_words}
 use Rattle.messages.specs.Turns.{IsCutAtTurn}
 
 -- words begin so
@@ -14,6 +15,13 @@ BeginsWith words front = (rest : List ℕ) × (words ≡ front ++ rest)
 -- this mark stands nowhere in these words
 abbrev pub IsFreeOf : List ℕ → List ℕ → Type 0
 IsFreeOf words mark = (front back : List ℕ) → words ≢ front ++ (mark ++ back)
+
+-- ---- the name of a program
+
+-- a line has the name of a program exactly where it begins with it, and a colon and a space
+abbrev pub HasProgram : List ℕ → Option Program → Type 0
+HasProgram line None = (program : Program) → ¬ (BeginsWith line (program_front program))
+HasProgram line (Some program) = BeginsWith line (program_front program)
 
 -- ---- the line of a script
 
@@ -70,7 +78,8 @@ file_names files = map (λ file. string_bytes file) files
 -- the words at which it stands begin with it
 pub record IsReadFrom (files : List (List ℕ)) (line : List ℕ) (message : Message) : Type 0 where
   pub words : line ≡ message_words message
-  pub script_line : HasScriptLine line message.script_line
+  pub program : HasProgram line message.program
+  pub script_line : HasScriptLine (unnamed_words message) message.script_line
   pub site : HasSite files (unnumbered_words message) message.site
   pub help : IsCutAtTurn message.wrong.now message.help
 
@@ -88,6 +97,7 @@ site_parts (Some site) = Some (site.file.now, site.at)
 pub record HaveSameFields (one other : Message) : Type 0 where
   pub wrong : one.wrong.now ≡ other.wrong.now
   pub help : option_copied one.help ≡ option_copied other.help
+  pub program : one.program ≡ other.program
   pub site : site_parts one.site ≡ site_parts other.site
   pub script_line : one.script_line ≡ other.script_line
 

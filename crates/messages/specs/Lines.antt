@@ -4,6 +4,8 @@ use Rattle.std.specs.Borrow.{Bor}
 use Rattle.std.specs.Fmt.{decimal}
 use Rattle.messages.specs.declared.message.Message.{Message}
 use Rattle.messages.specs.declared.message.Position.{Position}
+use Rattle.messages.specs.declared.message.Program.{Program}
+use Rattle.messages.specs.declared.message.Program.TheVariants.{Papcalc, PapAuthor}
 use Rattle.messages.specs.declared.message.Site.{Site}
 
 -- LINE:COLUMN and a colon and a space
@@ -19,6 +21,16 @@ behind_file (Some at) = codes ":" ++ position_of at
 abbrev pub site_text : Option Site → List ℕ
 site_text None = []
 site_text (Some site) = site.file.now ++ behind_file site.at
+
+-- the name of a program, and a colon and a space
+abbrev pub program_front : Program → List ℕ
+program_front Papcalc = codes "papcalc: "
+program_front PapAuthor = codes "pap_author: "
+
+-- the same, where a program's name stands there
+abbrev pub program_text : Option Program → List ℕ
+program_text None = []
+program_text (Some program) = program_front program
 
 -- stdin:NUMBER and a colon and a space
 abbrev pub script_text : Option ℕ → List ℕ
@@ -38,6 +50,11 @@ reason_words message = message.wrong.now ++ help_text message.help
 abbrev pub unnumbered_words : Message → List ℕ
 unnumbered_words message = site_text message.site ++ reason_words message
 
--- the line of a message: the script's line, the place in a file, what is wrong, and behind a semicolon what helps
+-- the line of a message without the name of a program: the script's line, the place in a file, what is wrong, and what helps
+abbrev pub unnamed_words : Message → List ℕ
+unnamed_words message = script_text message.script_line ++ unnumbered_words message
+
+-- the line of a message: the name of a program, the script's line, the place in a file, what is wrong, and behind a semicolon what
+-- helps
 abbrev pub message_words : Message → List ℕ
-message_words message = script_text message.script_line ++ unnumbered_words message
+message_words message = program_text message.program ++ unnamed_words message

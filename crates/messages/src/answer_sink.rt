@@ -34,6 +34,14 @@ impl LastRefusal {
         let _ = self.text.try_replace(line);
     }
 
+    /// Whether the last answer is a refusal of this group and name alone, as `book Filed`, and wasn't taken before.
+    pub fn is_of(&self, code: &str) -> bool {
+        let answer = self.take();
+        let is_so = answer.as_slice().strip_prefix(b"refused ") == Some(code.as_bytes());
+        let _ = self.text.try_replace(answer);
+        is_so
+    }
+
     /// The last answer, where it is a refusal and wasn't taken before; else nothing.
     pub(crate) fn take(&self) -> Vec<u8> {
         match self.text.try_replace(Vec::new(self.alloc)) {
@@ -55,7 +63,7 @@ fn first_line(text: &[u8]) -> &[u8] {
 #[derive(Drop)]
 pub struct AnswerSink<'a, S: Sink + Drop> {
     inner: S,
-    form: MessageForm,
+    keeps: bool,
     last: &'a LastRefusal,
 }
 
@@ -64,7 +72,22 @@ impl<'a, S: Sink + Drop> AnswerSink<'a, S> {
     pub fn new(inner: S, form: MessageForm, last: &'a LastRefusal) -> Self
         ensures { answers_below result ≡ inner }
     {
-        AnswerSink { inner, form, last }
+        AnswerSink {
+            inner,
+            keeps: form == MessageForm::Json,
+            last,
+        }
+    }
+
+    /// What goes to this sink, of which the last refusal is kept in any form. It is untouched.
+    pub fn keeping(inner: S, last: &'a LastRefusal) -> Self
+        ensures { answers_below result ≡ inner }
+    {
+        AnswerSink {
+            inner,
+            keeps: true,
+            last,
+        }
     }
 
     /// The sink below.
@@ -89,7 +112,7 @@ impl<S: Sink + Drop> Sink for AnswerSink<'_, S> {
         ensures cause { HasCause (S.faults (answers_below self.old))
             (S.faults (answers_below self.new)) result }
     {
-        if self.form == MessageForm::Json {
+        if self.keeps {
             self.last.keep(piece);
         }
         self.inner.put(piece)

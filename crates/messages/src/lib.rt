@@ -17,6 +17,6 @@ mod reading;
 pub use answer_sink::{AnswerSink, LastRefusal};
 pub use form::MessageForm;
 pub use json::{json_laws, push_json};
-pub use message::{Message, Position, Site};
+pub use message::{Message, Position, Program, Site};
 pub use message_sink::MessageSink;
 pub use reading::{message_of, reading_laws};

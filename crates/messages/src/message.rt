@@ -18,6 +18,15 @@ pub struct Site<'a> {
     pub at: Option<Position>,
 }
 
+/// The programs whose names stand before messages of their own.
+#[derive(Clone, Copy, Debug, PartialEq, Eq)]
+pub enum Program {
+    /// `papcalc`
+    Papcalc,
+    /// `pap_author`
+    PapAuthor,
+}
+
 /// A message: what is wrong, where that is, and what helps.
 #[derive(Clone, Copy)]
 pub struct Message<'a> {
@@ -25,6 +34,8 @@ pub struct Message<'a> {
     pub wrong: &'a str,
     /// What helps, where that is said.
     pub help: Option<&'a str>,
+    /// The program whose name stands before it, where one does.
+    pub program: Option<Program>,
     /// The file that has it, where it is in one.
     pub site: Option<Site<'a>>,
     /// The line of the script that was refused, where there is one.

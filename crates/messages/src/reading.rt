@@ -6,28 +6,43 @@ ghost use Rattle.messages.specs.Fields.{file_names, HasNoPlace, HasNoRefusal, Ha
 ghost use Rattle.messages.specs.Lines.{help_text};
 ghost use Rattle.messages.specs.Turns.{HasNoTurn, IsCutAtTurn, IsFirstTurn};
 ghost use Rattle.messages.specs.private.Cuts.{has_name, HasNoNumber, HasNoPosition, IsNumberCut, IsPlain, IsPlaceCut, IsPositionCut};
-ghost use Rattle.messages.specs.private.Cuts.{IsScriptCut, IsSiteCut, WriteNoNumber};
+ghost use Rattle.messages.specs.private.Cuts.{IsProgramCut, IsScriptCut, IsSiteCut, WriteNoNumber};
 
 use crate::cut::{behind, cut};
-use crate::message::{Message, Position, Site};
+use crate::message::{Message, Position, Program, Site};
 
-/// The message of a line: `stdin:NUMBER: ` where it is of a line of a script, `FILE:LINE:COLUMN: ` where it is of a place in a file, or
-/// `FILE: ` where it is of one of these files as a whole, what is wrong, and behind the first `; ` outside of backticks what helps. Put
-/// together, the fields are the line. It has no code and no place of a node.
+/// The message of a line: `papcalc: ` or `pap_author: ` where a program says it, `stdin:NUMBER: ` where it is of a line of a script,
+/// `FILE:LINE:COLUMN: ` where it is of a place in a file, or `FILE: ` where it is of one of these files as a whole, what is wrong, and
+/// behind the first `; ` outside of backticks what helps. Put together, the fields are the line. It has no code and no place of a node.
 pub fn message_of<'a>(line: &'a str, files: &[String]) -> Message<'a>
     ensures read { IsReadFrom (file_names files.now) line.now result }
     ensures refusal { HasNoRefusal result }
 {
-    let (script_line, told) = read_script_line(line);
+    let (program, numbered) = read_program(line);
+    let (script_line, told) = read_script_line(numbered);
     let (site, reason) = read_site(told, files);
     let (wrong, help) = split_help(reason);
     Message {
         wrong,
         help,
+        program,
         site,
         script_line,
         code: None,
         place: None,
+    }
+}
+
+/// The program whose name stands before these words, where one does, and what stands behind it.
+fn read_program<'a>(line: &'a str) -> (Option<Program>, &'a str)
+    ensures { IsProgramCut line.now result.0 result.1.now }
+{
+    if let Some(rest) = behind(line, "papcalc: ") {
+        return (Some(Program::Papcalc), rest);
+    }
+    match behind(line, "pap_author: ") {
+        Some(rest) => (Some(Program::PapAuthor), rest),
+        None => (None, line),
     }
 }
 

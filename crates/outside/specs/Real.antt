@@ -5,6 +5,7 @@ use Rattle.outside.specs.declared.real.RealFiles.{RealFiles}
 use Rattle.outside.specs.declared.real.StdSource.{StdSource}
 use Rattle.outside.specs.declared.real.StdSink.{StdSink}
 use Rattle.outside.specs.declared.sink_fault.SinkFault.{SinkFault}
+use Rattle.outside.specs.declared.source_fault.SourceFault.{SourceFault}
 
 -- how many calls failed
 abbrev pub real_faults : {R F D : Type 0} → RealFiles R F D → ℕ
@@ -17,6 +18,10 @@ real_failed s = failed_name s.failed
 -- how many calls failed
 abbrev pub source_faults : {R : Type 0} → StdSource R → ℕ
 source_faults s = s.faults
+
+-- why the last call that failed did
+abbrev pub source_fault : {R : Type 0} → StdSource R → Option SourceFault
+source_fault s = s.fault
 
 -- the reader below
 abbrev pub source_reader : {R : Type 0} → StdSource R → R

@@ -7,7 +7,9 @@ mod wrong_words;
 
 use crate::wrong_words::what_is_wrong;
 use messages::{AnswerSink, LastRefusal, MessageForm, MessageSink};
-use outside::{FailedFile, Files, RealFiles, Sink, SinkFault, Source, StdSink, StdSource};
+use outside::{
+    FailedFile, Files, RealFiles, Sink, SinkFault, Source, SourceFault, StdSink, StdSource,
+};
 use pap_cli::{LineCounts, Status, papcalc_told};
 use plain_words::one_line;
 use std::alloc::{AllocError, Global};
@@ -28,10 +30,16 @@ const USAGE: &str = "usage: papcalc check PLAN LIMITS
 /// The variable of the environment that says in which form messages are written.
 const MESSAGES: &str = "PAPCALC_MESSAGES";
 
-const UNSAVED_BOOK: &str =
-    "papcalc: the book isn't saved: `refused book Filed` where a month was filed (save before the first `file`, and file again in the \
-    next script), or `refused book Long` where its text would have more than 268435456 bytes (split its runs by employee)";
+/// What is said where `save` has not saved a book of which a month was filed.
+const UNSAVED_FILED: &str =
+    "papcalc: the book isn't saved, since a month was filed; save before the first `file`, and file again in the next script";
 
+/// What is said where it has not saved one whose text is too long.
+const UNSAVED_LONG: &str =
+    "papcalc: the book isn't saved, since its text would have more than 268435456 bytes; split its runs by employee into several \
+    books";
+
+/// What is said where it has not saved the book of a script with refused lines.
 const UNSAVED_LINES: &str =
     "papcalc: the book isn't saved, since lines of the script are refused; their answers are written in its place";
 
@@ -145,9 +153,9 @@ fn explain<S: Sink + Drop>(
     words: &[String],
 ) {
     match status {
-        Status::Done | Status::Refused | Status::FileFault | Status::WriteFault => {}
+        Status::Done | Status::Refused => {}
+        Status::FileFault | Status::ReadFault | Status::WriteFault => {}
         Status::BadWords => explain_words(alloc, notes, words),
-        Status::ReadFault => notes.tell("papcalc: standard input can't be read"),
         Status::NoMemory => notes.tell("papcalc: out of memory"),
         Status::ScriptLong => notes.tell("papcalc: the script is longer than 67108864 bytes"),
     }
@@ -192,6 +200,19 @@ fn file_fault_text(
     }
 }
 
+/// Says on standard error why standard input can't be read. That this may fail changes nothing.
+fn explain_read_fault<S: Sink + Drop>(
+    alloc: Global,
+    notes: &mut MessageSink<'_, S>,
+    fault: SourceFault,
+) {
+    if let Ok(text) = format!(in alloc;
+        "papcalc: standard input can't be read: {fault}; give it a script, as papcalc run < SCRIPT"
+    ) {
+        notes.tell(&text);
+    }
+}
+
 /// Says on standard error why the output can't be written. That this may fail changes nothing.
 fn explain_write_fault<S: Sink + Drop>(
     alloc: Global,
@@ -211,12 +232,77 @@ fn failed_line(words: &[String], counts: LineCounts) -> Option<u64> {
     }
 }
 
+/// What failed outside, each where it did.
+#[derive(Clone, Copy)]
+struct Faults<'a> {
+    /// The file that can't be read.
+    file: Option<&'a FailedFile>,
+    /// The line of the script that names it, where one does.
+    line: Option<u64>,
+    /// Why standard input can't be read.
+    source: Option<SourceFault>,
+    /// Why the output can't be written.
+    sink: Option<SinkFault>,
+}
+
+/// Says on standard error what failed outside, where the status is one of that. That this may fail changes nothing.
+fn explain_fault<S: Sink + Drop>(
+    alloc: Global,
+    notes: &mut MessageSink<'_, S>,
+    status: Status,
+    faults: &Faults<'_>,
+) {
+    if status == Status::FileFault
+        && let Some(file) = faults.file
+    {
+        explain_file_fault(alloc, notes, file, faults.line);
+    }
+    if status == Status::ReadFault
+        && let Some(fault) = faults.source
+    {
+        explain_read_fault(alloc, notes, fault);
+    }
+    if status == Status::WriteFault
+        && let Some(fault) = faults.sink
+    {
+        explain_write_fault(alloc, notes, fault);
+    }
+}
+
+/// Whether the words ask for a book to be saved.
+fn is_save(words: &[String]) -> bool {
+    match words {
+        [word] => word.as_str() == "save",
+        _ => false,
+    }
+}
+
+/// Answers on their way to this sink. The refusal in place of a saved book is kept, and others where messages have this form.
+fn answers_to<'a, S: Sink + Drop>(
+    inner: S,
+    form: MessageForm,
+    words: &[String],
+    last: &'a LastRefusal,
+) -> AnswerSink<'a, S> {
+    if is_save(words) {
+        AnswerSink::keeping(inner, last)
+    } else {
+        AnswerSink::new(inner, form, last)
+    }
+}
+
 /// Says on standard error that `save` has not saved the book, and why. That this may fail changes nothing.
-fn explain_unsaved<S: Sink + Drop>(notes: &mut MessageSink<'_, S>, counts: LineCounts) {
+fn explain_unsaved<S: Sink + Drop>(
+    notes: &mut MessageSink<'_, S>,
+    counts: LineCounts,
+    last: &LastRefusal,
+) {
     let unsaved = if counts.any() {
         UNSAVED_LINES
+    } else if last.is_of("book Filed") {
+        UNSAVED_FILED
     } else {
-        UNSAVED_BOOK
+        UNSAVED_LONG
     };
     notes.tell(unsaved);
 }
@@ -238,7 +324,7 @@ fn carried_out(rt: &HostRuntime, form: MessageForm, words: &[String]) -> ExitCod
     let last = LastRefusal::new(alloc);
     let mut files = RealFiles::new(rt);
     let mut source = StdSource::new(rt.reader());
-    let mut sink = AnswerSink::new(StdSink::new(io::writer(rt)), form, &last);
+    let mut sink = answers_to(StdSink::new(io::writer(rt)), form, words, &last);
     let mut notes = MessageSink::new(StdSink::new(rt.stderr()), form, alloc, words, &last);
     let mut counts = LineCounts::new();
     let status = counted::<Brand, _, _, _, _>(
@@ -251,22 +337,16 @@ fn carried_out(rt: &HostRuntime, form: MessageForm, words: &[String]) -> ExitCod
         &mut counts,
         Blank::new(1),
     );
-    if let [word] = words
-        && word.as_str() == "save"
-        && status == Status::Refused
-    {
-        explain_unsaved(&mut notes, counts);
+    if is_save(words) && status == Status::Refused {
+        explain_unsaved(&mut notes, counts, &last);
     }
-    if status == Status::FileFault
-        && let Some(file) = files.failed_file()
-    {
-        explain_file_fault(alloc, &mut notes, file, failed_line(words, counts));
-    }
-    if status == Status::WriteFault
-        && let Some(fault) = sink.inner().fault()
-    {
-        explain_write_fault(alloc, &mut notes, fault);
-    }
+    let faults = Faults {
+        file: files.failed_file(),
+        line: failed_line(words, counts),
+        source: source.fault(),
+        sink: sink.inner().fault(),
+    };
+    explain_fault(alloc, &mut notes, status, &faults);
     end(alloc, &mut notes, status, words)
 }
 

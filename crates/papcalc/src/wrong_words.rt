@@ -2,7 +2,7 @@
 
 use pap_cli::bad_value;
 use payroll_records::{InsertFault, NamedValue, Values};
-use plain_words::one_line;
+use plain_words::{one_line, value_words};
 use std::alloc::{AllocError, Global};
 
 /// Why words that have no form have none, in one line whatever they are. None where no single word can be blamed.
@@ -86,7 +86,7 @@ fn wrong_count(alloc: Global, words: &[String]) -> Result<String, AllocError> {
 /// Which of the values of `once` is wrong, and why.
 fn wrong_value(alloc: Global, values: &[String]) -> Result<Option<String>, AllocError> {
     if let Some(word) = bad_value(values) {
-        return Ok(Some(wrong_form(alloc, word)?));
+        return Ok(Some(value_words(alloc, word.as_bytes())?));
     }
     let mut read = Values::new(alloc);
     for word in values {
@@ -111,23 +111,4 @@ fn wrong_value(alloc: Global, values: &[String]) -> Result<Option<String>, Alloc
         }
     }
     Ok(None)
-}
-
-/// Why a word isn't of the form NAME=VALUE: it has no `=`, or what stands on a side of its first one isn't of its form.
-fn wrong_form(alloc: Global, word: &str) -> Result<String, AllocError> {
-    let shown = one_line(alloc, word)?;
-    let Some((name, _)) = word.split_once('=') else {
-        return format!(in alloc;
-            "`{shown}` has no `=`; a value stands behind its name, as PAY=2500.55"
-        );
-    };
-    let zero = format!(in alloc; "{name}=0")?;
-    if NamedValue::read(zero.as_bytes()).is_none() {
-        return format!(in alloc;
-            "`{shown}` has no name before its `=`; a name is 1 to 32 letters, digits or `_`, and doesn't begin with a digit"
-        );
-    }
-    format!(in alloc;
-        "`{shown}` has no number behind its `=`, or one of more than 30 decimal places or beyond 10^37 without its point; a number has a point before decimal places and nothing between thousands, as 2500.55"
-    )
 }

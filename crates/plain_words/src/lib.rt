@@ -34,6 +34,7 @@ mod table_row;
 mod tags;
 mod tokens;
 mod toml_causes;
+mod value_word;
 
 pub use counting::position;
 pub use lines::one_line;
@@ -41,3 +42,4 @@ pub use place::{Position, TextFile};
 pub use plan::plan_words;
 pub use state::{RunReason, state_words};
 pub use table::table_words;
+pub use value_word::value_words;

@@ -10,7 +10,8 @@ use crate::position;
 use crate::quotes::write_quoted;
 use crate::table_row::{TableRow, earlier_row, find_row};
 use pap_tree::Name;
-use payroll_records::{Day, MOST_VALUES, TableFault};
+use payroll_records::{Day, Employee, MOST_VALUES, Month, TableFault};
+use scaled_decimal::read_dec;
 use std::alloc::{AllocError, Global};
 use std::collections::BTreeSet;
 
@@ -21,7 +22,7 @@ const FIRST_FIELDS: [&str; 3] = ["employee", "month", "day"];
 const HEADER_HELP: &str =
     "the first row is employee,month,day and then at most 256 different names of inputs, with commas between them";
 
-/// What is wrong with the table of a file, in one line of plain words that begins with the file and the line in it, and ends with
+/// What is wrong with the table of a file, in one line of plain words that begins with the file and the place in it, and ends with
 /// what helps. Lines are counted from 1, with the header and empty lines. Fails only for lack of memory.
 pub fn table_words(
     alloc: Global,
@@ -49,48 +50,65 @@ pub fn table_words(
     one_line(alloc, &told)
 }
 
-/// Appends the line of a row, counted from 1 behind the header, what is wrong there, and what helps.
+/// Appends the place of a row in its file and its number, counted from 1 behind the header, what is wrong there, and what helps.
 fn write_row_fault(
     told: &mut String,
     table: &[u8],
     number: u64,
     fault: &TableFault,
 ) -> Result<(), AllocError> {
-    let Some(row) = find_row(*told.allocator(), table, number)? else {
+    let alloc = *told.allocator();
+    let Some(row) = find_row(alloc, table, number)? else {
         return write!(told, ": {fault}");
     };
-    let line = position(table, row.at).line;
-    write!(told, ":{line}: row {number}: ")?;
+    let place = fault_place(alloc, table, &row, fault)?;
+    let position = position(table, row.field_byte(table, place));
+    write!(told, ":{position}: row {number}: ")?;
+    if place.saturating_add(1) == row.len() && row.is_unclosed(table) {
+        return told.push_str(
+            "the quotation mark here isn't closed; write one behind the value too, or take it out",
+        );
+    }
+    let field = row.field(place);
     match fault {
         TableFault::Width { .. } => write_width_fault(told, table, &row),
-        TableFault::Employee { .. } => {
-            told.push_str("the employee is ")?;
-            write_quoted(told, row.field(0), 0)?;
-            told.push_str(
-                ", and not 1 to 32 ASCII letters, digits, `_`, `-` and `.`; correct it, also in later files, since runs are found by it",
-            )
-        }
-        TableFault::Month { .. } => {
-            told.push_str("the month is ")?;
-            write_quoted(told, row.field(1), 0)?;
-            told.push_str(
-                ", and not of the form YYYY-MM, or not of the years 1900 to 2999; write it as 2025-01",
-            )
-        }
+        TableFault::Employee { .. } => write_employee_fault(told, field),
+        TableFault::Month { .. } => write_month_fault(told, field),
         TableFault::Day { .. } => write_day_fault(told, &row),
-        TableFault::Value { name, .. } => write_value_fault(told, table, &row, *name),
+        TableFault::Value { name, .. } => write_value_fault(told, field, *name),
         _ => write_repeat(told, table, &row, number),
+    }
+}
+
+/// The place of the field at which a row is refused, counted from 0. Of one with too few or too many fields that is the last, where its
+/// quotation marks aren't closed, and else the first.
+fn fault_place(
+    alloc: Global,
+    table: &[u8],
+    row: &TableRow,
+    fault: &TableFault,
+) -> Result<usize, AllocError> {
+    match fault {
+        TableFault::Width { .. } if row.is_unclosed(table) => Ok(row.len().saturating_sub(1)),
+        TableFault::Month { .. } => Ok(1),
+        TableFault::Day { .. } => Ok(2),
+        TableFault::Value { name, .. } => match find_row(alloc, table, 0)? {
+            Some(header) => Ok(header.place_of(name.bytes()).unwrap_or(0)),
+            None => Ok(0),
+        },
+        _ => Ok(0),
     }
 }
 
 /// Appends how many fields a row has, and how many the header has, and what helps.
 fn write_width_fault(told: &mut String, table: &[u8], row: &TableRow) -> Result<(), AllocError> {
     let found = row.len();
+    let noun = if found == 1 { "field" } else { "fields" };
     let wanted = match find_row(*told.allocator(), table, 0)? {
         Some(header) => header.len(),
         None => 0,
     };
-    write!(told, "it has {found} fields, and the header has {wanted}; ")?;
+    write!(told, "it has {found} {noun}, and the header has {wanted}; ")?;
     told.push_str(if found == wanted.saturating_add(1) && row.field(wanted).is_empty() {
         "take out the comma at its end"
     } else if row.field(0).contains(&b';') {
@@ -100,6 +118,38 @@ fn write_width_fault(told: &mut String, table: &[u8], row: &TableRow) -> Result<
     } else {
         "a field without a value is empty, and its comma stands"
     })
+}
+
+/// What is said of a field that is right but for blanks round it.
+const BLANKS: &str = ", with a blank; take the blank out";
+
+/// Whether a field has blanks round what is to stand there.
+fn has_blanks(field: &[u8]) -> bool {
+    field.trim_ascii().len() < field.len()
+}
+
+/// Appends what a row has in place of an employee, and what helps.
+fn write_employee_fault(told: &mut String, field: &[u8]) -> Result<(), AllocError> {
+    told.push_str("the employee is ")?;
+    write_quoted(told, field, 0)?;
+    if has_blanks(field) && Employee::read(field.trim_ascii()).is_some() {
+        return told.push_str(BLANKS);
+    }
+    told.push_str(
+        ", and not 1 to 32 ASCII letters, digits, `_`, `-` and `.`; correct it, also in later files, since runs are found by it",
+    )
+}
+
+/// Appends what a row has in place of a month, and what helps.
+fn write_month_fault(told: &mut String, field: &[u8]) -> Result<(), AllocError> {
+    told.push_str("the month is ")?;
+    write_quoted(told, field, 0)?;
+    if has_blanks(field) && Month::read(field.trim_ascii()).is_some() {
+        return told.push_str(BLANKS);
+    }
+    told.push_str(
+        ", and not of the form YYYY-MM, or not of the years 1900 to 2999; write it as 2025-01",
+    )
 }
 
 /// Appends what a row has in place of a day, and what helps.
@@ -112,6 +162,9 @@ fn write_day_fault(told: &mut String, row: &TableRow) -> Result<(), AllocError> 
         write_quoted(told, row.field(1), 0)?;
         return told.push_str("; correct one of the two");
     }
+    if has_blanks(day) && Day::read(day.trim_ascii()).is_some() {
+        return told.push_str(BLANKS);
+    }
     told.push_str(
         ", and not of the form YYYY-MM-DD, not in the calendar or not of the years 1900 to 2999",
     )?;
@@ -123,21 +176,15 @@ fn write_day_fault(told: &mut String, row: &TableRow) -> Result<(), AllocError> 
 }
 
 /// Appends what a row has in place of a number under a name, and what helps.
-fn write_value_fault(
-    told: &mut String,
-    table: &[u8],
-    row: &TableRow,
-    name: Name,
-) -> Result<(), AllocError> {
+fn write_value_fault(told: &mut String, cell: &[u8], name: Name) -> Result<(), AllocError> {
     write!(told, "the value of {name} is ")?;
-    if let Some(header) = find_row(*told.allocator(), table, 0)?
-        && let Some(place) = header.place_of(name.bytes())
-    {
-        write_quoted(told, row.field(place), 0)?;
-        told.push_str(", and ")?;
+    write_quoted(told, cell, 0)?;
+    let inner = cell.trim_ascii();
+    if has_blanks(cell) && (inner.is_empty() || read_dec(inner).is_ok()) {
+        return told.push_str(BLANKS);
     }
     told.push_str(
-        "no number of at most 30 decimal places and at most 10^37 without its point; write a point before decimal places and nothing between thousands, as 2500.55",
+        ", and no number of at most 30 decimal places and at most 10^37 without its point; write a point before decimal places and nothing between thousands, as 2500.55",
     )
 }
 
@@ -158,39 +205,41 @@ fn write_repeat(
 /// Appends what is wrong with the first row, and what helps.
 fn write_header_fault(told: &mut String, table: &[u8]) -> Result<(), AllocError> {
     if is_utf16(table) {
-        return told.push_str(": the table is written in UTF-16; save it as CSV in UTF-8");
+        return told.push_str(":1:1: the table is written in UTF-16; save it as CSV in UTF-8");
     }
     let Some(header) = find_row(*told.allocator(), table, 0)? else {
-        return write!(told, ": the table is empty; {HEADER_HELP}");
+        return write!(told, ":1:1: the table is empty; {HEADER_HELP}");
     };
-    let line = position(table, header.at).line;
-    write!(told, ":{line}: ")?;
-    write_heading(told, &header)?;
-    write!(told, "; {HEADER_HELP}")
+    let mut wrong = String::new(*told.allocator());
+    let place = write_heading(&mut wrong, &header)?;
+    let position = position(table, header.field_byte(table, place));
+    write!(told, ":{position}: {wrong}; {HEADER_HELP}")
 }
 
-/// Appends what is wrong with the first row, which isn't empty.
-fn write_heading(told: &mut String, header: &TableRow) -> Result<(), AllocError> {
+/// Appends what is wrong with the first row, which isn't empty, and gives the place of the field that is wrong, counted from 0.
+fn write_heading(wrong: &mut String, header: &TableRow) -> Result<usize, AllocError> {
     if header.len() < FIRST_FIELDS.len() {
-        return told.push_str(if header.field(0).contains(&b';') {
+        wrong.push_str(if header.field(0).contains(&b';') {
             "semicolons stand between the fields of the first row"
         } else if header.field(0).contains(&b'\t') {
             "tabs stand between the fields of the first row"
         } else {
             "the first row has fewer than three fields"
-        });
+        })?;
+        return Ok(0);
     }
     for (place, word) in FIRST_FIELDS.iter().enumerate() {
         let field = header.field(place);
         if field != word.as_bytes() {
             let number = place.saturating_add(1);
-            write!(told, "field {number} of the first row is ")?;
-            write_quoted(told, field, 0)?;
-            write!(told, ", and not `{word}`")?;
-            return told.push_str(spelling_words(field, word));
+            write!(wrong, "field {number} of the first row is ")?;
+            write_quoted(wrong, field, 0)?;
+            write!(wrong, ", and not `{word}`")?;
+            wrong.push_str(spelling_words(field, word))?;
+            return Ok(place);
         }
     }
-    write_columns(told, header)
+    write_columns(wrong, header)
 }
 
 /// What a field has beside a word, where it has only blanks or other capitals.
@@ -205,21 +254,22 @@ fn spelling_words(field: &[u8], word: &str) -> &'static str {
     }
 }
 
-/// Appends what is wrong with the names of a first row, whose first fields are right.
-fn write_columns(told: &mut String, header: &TableRow) -> Result<(), AllocError> {
-    let mut seen = BTreeSet::new(*told.allocator());
+/// Appends what is wrong with the names of a first row, whose first fields are right, and gives the place of the field that is wrong.
+fn write_columns(wrong: &mut String, header: &TableRow) -> Result<usize, AllocError> {
+    let mut seen = BTreeSet::new(*wrong.allocator());
     for place in FIRST_FIELDS.len()..header.len() {
         let field = header.field(place);
         let number = place.saturating_add(1);
         if field.is_empty() {
-            write!(told, "field {number} of the first row is empty")?;
-            return told.push_str(if number == header.len() {
+            write!(wrong, "field {number} of the first row is empty")?;
+            wrong.push_str(if number == header.len() {
                 ", behind a comma at its end"
             } else {
                 ""
-            });
+            })?;
+            return Ok(place);
         }
-        let wrong = if Name::read(field.trim_ascii()).is_some() && Name::read(field).is_none() {
+        let reason = if Name::read(field.trim_ascii()).is_some() && Name::read(field).is_none() {
             "is a name with blanks round it"
         } else if Name::read(field).is_none() {
             "isn't a name"
@@ -228,9 +278,11 @@ fn write_columns(told: &mut String, header: &TableRow) -> Result<(), AllocError>
         } else {
             continue;
         };
-        write!(told, "field {number} of the first row, ")?;
-        write_quoted(told, field, 0)?;
-        return write!(told, ", {wrong}");
+        write!(wrong, "field {number} of the first row, ")?;
+        write_quoted(wrong, field, 0)?;
+        write!(wrong, ", {reason}")?;
+        return Ok(place);
     }
-    write!(told, "the first row has more than {MOST_VALUES} names")
+    write!(wrong, "the first row has more than {MOST_VALUES} names")?;
+    Ok(0)
 }

@@ -31,6 +31,65 @@ impl TableRow {
     pub(crate) fn place_of(&self, word: &[u8]) -> Option<usize> {
         (0..self.len()).find(|place| self.field(*place) == word)
     }
+
+    /// The byte of its table at which the field at a place begins.
+    pub(crate) fn field_byte(&self, table: &[u8], place: usize) -> usize {
+        let mut passed = 0;
+        let mut state = FieldState::Start;
+        for (count, byte) in self.text(table).iter().enumerate() {
+            if passed == place {
+                return self.at.saturating_add(count);
+            }
+            state = state.after(*byte);
+            if state == FieldState::Start {
+                passed = passed.saturating_add(1);
+            }
+        }
+        table.len()
+    }
+
+    /// Whether it ends, with its table, within quotation marks that were opened.
+    pub(crate) fn is_unclosed(&self, table: &[u8]) -> bool {
+        let mut state = FieldState::Start;
+        for byte in self.text(table) {
+            if state != FieldState::Quoted && (*byte == b'\n' || *byte == b'\r') {
+                return false;
+            }
+            state = state.after(*byte);
+        }
+        state == FieldState::Quoted
+    }
+
+    /// Its table from its first byte on.
+    fn text<'a>(&self, table: &'a [u8]) -> &'a [u8] {
+        table.get(self.at..).unwrap_or(&[])
+    }
+}
+
+/// What stands behind some bytes of a row.
+#[derive(Clone, Copy, PartialEq, Eq)]
+enum FieldState {
+    /// A field begins.
+    Start,
+    /// A field goes on.
+    Plain,
+    /// A field goes on within quotation marks.
+    Quoted,
+    /// The quotation marks of a field end, or one more mark stands for a mark in it.
+    Behind,
+}
+
+impl FieldState {
+    /// The same behind one more byte, which ends no row.
+    fn after(self, byte: u8) -> FieldState {
+        match (self, byte) {
+            (FieldState::Quoted, b'"') => FieldState::Behind,
+            (FieldState::Quoted, _) => FieldState::Quoted,
+            (_, b',') => FieldState::Start,
+            (FieldState::Start | FieldState::Behind, b'"') => FieldState::Quoted,
+            _ => FieldState::Plain,
+        }
+    }
 }
 
 /// The row of a number; 0 is the header's. `None` where the table has fewer rows.

@@ -1,10 +1,12 @@
 //! The lines of a script, carried out one by one: what a line answers, what it makes of the book, and what it counts.
 #![tactic(auto)]
 
+mod book_words;
 mod command;
 mod edits;
 mod filings;
 mod going_on;
+mod line_words;
 mod load;
 mod open;
 mod plan;
@@ -12,8 +14,11 @@ mod refusals;
 mod reply;
 mod report;
 mod script;
+mod shown;
 mod step;
 mod stop;
+mod takes;
+mod time_words;
 mod trace;
 mod trial;
 mod unwritten;

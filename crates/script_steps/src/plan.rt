@@ -2,8 +2,8 @@
 ghost use Rattle.std.specs.Prelude.{◌≡◌, ◌≢◌, ℕ, List, IfOk, OnErr, Ok, Err};
 ghost use Rattle.std.specs.Result.{ForErr};
 ghost use Rattle.outside.specs.Causes.{Caused};
+ghost use Rattle.pap_plan.specs.Acceptance.{IsRefused, IsRefusedOrMemory};
 ghost use Rattle.plan_answers.specs.Answers.{IsRefusal};
-ghost use Rattle.plan_answers.specs.Refusals.{HasItsPlan};
 ghost use Rattle.script_steps.specs.private.Replies.{reply_of};
 ghost use Rattle.script_lang.specs.Commands as asked;
 ghost use Rattle.script_steps.specs.LineSteps.{IsPut, IsTextsStep, IsTrialStep};
@@ -16,6 +16,7 @@ use crate::reply::LineReply;
 use crate::script::Script;
 use crate::stop::LineStop;
 use crate::trial::trial_reply;
+use diagnostics::refusal_lines;
 use outside::Files;
 use pap_plan::{Plan, PlanRefusal, accept};
 use payroll_records::Day;
@@ -141,16 +142,46 @@ fn refused_plan(
     limits: TextFile<'_>,
     fault: &PlanRefusal,
 ) -> Result<LineReply, AllocError>
-    requires { HasItsPlan plan.bytes.now fault.now }
+    requires { IsRefusedOrMemory plan.bytes.now limits.bytes.now fault.now }
     ensures { IfOk result (λ reply. IsRefusal plan.entry.bytes.now fault.now (reply_of reply)) }
 {
     let Reply { text, steps, .. } = plan_answers::refused(alloc, plan.bytes, fault)?;
-    let wrong = plan_words(alloc, plan, limits, fault)?;
+    let wrong = refusal_words(alloc, plan, limits, fault)?;
     Ok(LineReply {
         text,
         wrong: Some(wrong),
         steps,
     })
+}
+
+/// Why a plan is refused, and where a node may fail on inputs within their ranges, within which ranges its operands lie there.
+fn refusal_words(
+    alloc: Global,
+    plan: TextFile<'_>,
+    limits: TextFile<'_>,
+    fault: &PlanRefusal,
+) -> Result<String, AllocError>
+    requires { IsRefused plan.bytes.now limits.bytes.now fault.now }
+{
+    match fault {
+        PlanRefusal::Range(_) => {
+            let lines = refusal_lines(alloc, plan, limits, fault)?;
+            joined(alloc, &lines)
+        }
+        _ => plan_words(alloc, plan, limits, fault),
+    }
+}
+
+/// Lines as one, with semicolons between them.
+fn joined(alloc: Global, lines: &str) -> Result<String, AllocError> {
+    let mut words = String::new(alloc);
+    for line in lines.lines() {
+        if !words.is_empty() {
+            words.push_str("; ")?;
+        }
+        words.push_str(line.strip_prefix("papcalc: ").unwrap_or(line))?;
+    }
+    Ok(words)
 }
 
 /// Puts a plan at its day, where it is accepted.

@@ -5,23 +5,28 @@ ghost use Rattle.script_steps.specs.private.Replies.{reply_of};
 ghost use Rattle.script_steps.specs.private.StepViews.{IsBookRefusal, IsEditRefusal, IsLineRefusal, IsTableRefusal};
 ghost use Rattle.script_steps.specs.private.StepViews.{IsFileRefusal, IsOwedRefusal, IsTraceRefusal};
 
+use crate::book_words::book_words;
+use crate::line_words::line_words;
 use crate::reply::{LineReply, refused};
 use book_file::BookFault;
 use correction_ledger::{FileRefusal, OwedRefusal};
 use month_trace::TraceRefusal;
 use payroll_records::{MOST_RECORDS, TableFault};
-use plain_words::{TextFile, one_line, table_words};
+use plain_words::{TextFile, table_words};
 use recalc_engine::EditRefusal;
-use saved_items::{WrongItem, wrong_item};
 use script_lang::LineFault;
 use std::alloc::{AllocError, Global};
 
 /// The refusal of a line.
-pub(crate) fn line_refusal(alloc: Global, fault: &LineFault) -> Result<LineReply, AllocError>
+pub(crate) fn line_refusal(
+    alloc: Global,
+    line: &[u8],
+    fault: &LineFault,
+) -> Result<LineReply, AllocError>
     ensures { IfOk result (λ reply. IsLineRefusal fault.now (reply_of reply)) }
 {
     let detail = line_detail(alloc, fault)?;
-    refused(alloc, detail.as_bytes(), fault.to_string(alloc)?)
+    refused(alloc, detail.as_bytes(), line_words(alloc, line, fault)?)
 }
 
 /// The refusal of the table of this file.
@@ -101,79 +106,6 @@ pub(crate) fn book_refusal(
 {
     let detail = book_detail(alloc, fault)?;
     refused(alloc, detail.as_bytes(), book_words(alloc, file, fault)?)
-}
-
-/// What is wrong with the saved book of this file, and what helps, in plain words.
-fn book_words(alloc: Global, file: TextFile<'_>, fault: &BookFault) -> Result<String, AllocError> {
-    let name = file.name;
-    match fault {
-        BookFault::Long => format!(in alloc;
-            "{name}: {fault}; `save` writes none that is longer: split the runs by employee into several books"
-        ),
-        BookFault::Form { item } => form_words(alloc, file, *item),
-        BookFault::Plan { .. } => format!(in alloc;
-            "{name}: {fault}; its texts stand behind its line, and `papcalc check` on them says why"
-        ),
-        fault => format!(in alloc; "{name}: {fault}"),
-    }
-}
-
-/// What is wrong with an item of a saved book, with the line in which it would begin, and what helps. The text is read once more
-/// for that.
-fn form_words(alloc: Global, file: TextFile<'_>, item: u32) -> Result<String, AllocError> {
-    let name = file.name;
-    match wrong_item(alloc, file.bytes)? {
-        Some(wrong) => {
-            let line = wrong.line;
-            let words = item_words(alloc, &wrong)?;
-            format!(in alloc; "{name}:{line}:1: {words}")
-        }
-        None => format!(in alloc; "{name}: item {item} is not of its form"),
-    }
-}
-
-/// What stands in place of an item of a saved book, and what has to stand there.
-fn item_words(alloc: Global, wrong: &WrongItem<'_>) -> Result<String, AllocError> {
-    let item = wrong.item;
-    if wrong.is_cut {
-        return cut_words(alloc, item, wrong.found);
-    }
-    let shown = line_words(alloc, wrong.found)?;
-    let needed = wrong.wanted.words();
-    format!(in alloc; "item {item}, {shown}, is not of its form; {needed}")
-}
-
-/// Where the text of a saved book was cut off.
-fn cut_words(alloc: Global, item: u32, found: &[u8]) -> Result<String, AllocError> {
-    if !found.is_empty() {
-        let shown = line_words(alloc, found)?;
-        return format!(in alloc;
-            "the text ends in item {item}, {shown}, before its line feed; it was cut off: write or copy the book again"
-        );
-    }
-    if item == 1 {
-        return format!(in alloc;
-            "the file is empty; `save` leaves it so where it writes to the very file that its script opens: write to a new file"
-        );
-    }
-    format!(in alloc;
-        "the text ends before item {item}; it was cut off: write or copy the book again"
-    )
-}
-
-/// The most bytes that are shown of a line.
-const MOST_SHOWN: usize = 80;
-
-/// How a line begins, in plain words.
-fn line_words(alloc: Global, line: &[u8]) -> Result<String, AllocError> {
-    if line.is_empty() {
-        return format!(in alloc; "an empty line");
-    }
-    let front = &line[..line.len().min(MOST_SHOWN)];
-    let text = String::from_utf8_lossy(alloc, front)?;
-    let shown = one_line(alloc, &text)?;
-    let more = if front.len() < line.len() { ".." } else { "" };
-    format!(in alloc; "`{shown}{more}`")
 }
 
 /// The group, the name and the details of a line's refusal.

@@ -48,13 +48,14 @@ pub fn answer_line<F: Files, W: Sink, L: Ledger>(
     match read_next_line(alloc, line, &mut script.order) {
         Ok(command) => answer_command(alloc, script, command, files, sink, steps),
         Err(LineFault::Memory(_)) => Err(LineStop::Memory),
-        Err(fault) => answer_fault(alloc, &fault, sink),
+        Err(fault) => answer_fault(alloc, line, &fault, sink),
     }
 }
 
 /// Answers a line that is refused.
 fn answer_fault<W: Sink>(
     alloc: Global,
+    line: &[u8],
     fault: &LineFault,
     sink: &mut W,
 ) -> Result<Option<String>, LineStop>
@@ -64,7 +65,7 @@ fn answer_fault<W: Sink>(
         (IsRefusalUnwritten (W.written sink.old) (W.written sink.new) fault.now) }
     ensures write { Caused LineStop.Write (W.faults sink.old) (W.faults sink.new) result }
 {
-    let reply = line_refusal(alloc, fault)?;
+    let reply = line_refusal(alloc, line, fault)?;
     write_reply(reply, sink)
 }
 

@@ -53,7 +53,7 @@ pub fn answer_unwritten<F: Files, L: Ledger>(
     match read_next_line(alloc, line, &mut script.order) {
         Ok(command) => refusal_of(alloc, script, command, files, steps),
         Err(LineFault::Memory(_)) => Err(LineStop::Memory),
-        Err(fault) => Ok(refusal_in(line_refusal(alloc, &fault)?)),
+        Err(fault) => Ok(refusal_in(line_refusal(alloc, line, &fault)?)),
     }
 }
 

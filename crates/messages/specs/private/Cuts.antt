@@ -4,9 +4,10 @@ use Rattle.std.specs.Fmt.{decimal}
 use Rattle.std.specs.List.{list_any}
 use Rattle.std.specs.declared.alloc.Global.{Global}
 use Rattle.messages.specs.declared.message.Position.{Position}
+use Rattle.messages.specs.declared.message.Program.{Program}
 use Rattle.messages.specs.declared.message.Site.{Site}
-use Rattle.messages.specs.Fields.{HasScriptLine, HasSite, IsSmallPosition}
-use Rattle.messages.specs.Lines.{position_of, script_text, site_text}
+use Rattle.messages.specs.Fields.{HasProgram, HasScriptLine, HasSite, IsSmallPosition}
+use Rattle.messages.specs.Lines.{position_of, program_text, script_text, site_text}
 
 -- a text is cut at the first such mark
 pub record IsFirstCut (mark text front back : List ℕ) : Type 0 where
@@ -30,6 +31,11 @@ pub record IsNumberCut (mark text : List ℕ) (number : ℕ) (rest : List ℕ) :
 -- a text doesn't begin with a number and such a mark
 abbrev pub HasNoNumber : List ℕ → List ℕ → Type 0
 HasNoNumber mark text = (number : ℕ) (rest : List ℕ) → ¬ (IsNumberCut mark text number rest)
+
+-- the name of a program is cut off a line that begins with one
+pub record IsProgramCut (line : List ℕ) (program : Option Program) (numbered : List ℕ) : Type 0 where
+  pub parts : line ≡ program_text program ++ numbered
+  pub is : HasProgram line program
 
 -- the number of a script's line is cut off a line that begins with one
 pub record IsScriptCut (line : List ℕ) (script_line : Option ℕ) (told : List ℕ) : Type 0 where

@@ -10,7 +10,13 @@ returns c =
     let read = c.message_of.ensures.read in
     record {
       message = message;
-      read = record { words = read.words; script_line = read.script_line; site = read.site; help = read.help };
+      read = record {
+        words = read.words;
+        program = read.program;
+        script_line = read.script_line;
+        site = read.site;
+        help = read.help;
+      };
       code = refl;
       place = refl;
       put = c.in_ok-push.ensures.items ∙ ap (λ (l : List ℕ). l ++ 10 ∷ []) c.in_ok-push_json.ensures
