@@ -79,7 +79,9 @@ cause_help causes.Index = codes "test the index in an IF before it, or narrow th
 -- what helps where a node may fail, or an output may be too great
 abbrev pub range_help : RangeFault → Option (List ℕ)
 range_help (ranges.At place cause) = Some (cause_help cause)
-range_help (ranges.Output name) = Some (codes "round it by setScale, or narrow the ranges in the range file")
+range_help (ranges.Output name) =
+    Some (codes "round it by setScale where it has too many digits, "
+    ++ codes "and where it is too great bound it by min or narrow the ranges in the range file")
 range_help (ranges.Memory e) = None
 
 -- what helps, where the refusal alone decides it

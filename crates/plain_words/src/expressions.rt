@@ -10,9 +10,10 @@ use crate::sites::{
     DeclaredSite, Source, declaration_of, literal_byte, statement_byte, statement_of,
     write_statement,
 };
+use crate::slips::{Slip, comma_slip, slip_at};
 use crate::statements::statement_text;
-use crate::tokens::token_from;
-use expr_tokens::{Keyword, Sign, Token};
+use crate::tokens::{Stop, name_at};
+use expr_tokens::{Keyword, Sign, Token, read_tokens};
 use pap_expr::{ExprFault, parse_constant};
 use pap_plan::Spot;
 use pap_tree::{Binary, Name};
@@ -33,11 +34,11 @@ pub(crate) fn find_expression(
     match spot {
         Spot::Statement { method, stmt } => {
             let text = faulty_statement(*quote.allocator(), source, method, *stmt)?;
-            let token = token_from(*quote.allocator(), text, at)?;
             write_token(quote, token_at(text, at))?;
             write_statement(quote, source, method, *stmt, at)?;
+            let help = write_slip(quote, source, fault, text, at)?;
             let at = statement_byte(source, method, *stmt, at);
-            Ok(Found::in_plan(at).with_help(token_help(fault, token.as_ref())))
+            Ok(Found::in_plan(at).with_help(help))
         }
         Spot::Declared { name } => match declaration_of(source, name) {
             Some(found) => find_literal(source, found, fault, at, quote),
@@ -83,15 +84,15 @@ fn find_literal(
     ensures { IfOk result (λ found. IsOfPlan found) }
 {
     let text = faulty_literal(*quote.allocator(), found)?;
-    let token = token_from(*quote.allocator(), text, at)?;
     write_token(quote, token_at(text, at))?;
     quote.push_str("the literal ")?;
     write_quoted(quote, text, at)?;
     let element = found.group.name();
     let name = found.declared.name;
     write!(quote, " of the {element} {name}")?;
+    let help = write_slip(quote, source, fault, text, at)?;
     let at = literal_byte(source, found, at);
-    Ok(Found::in_plan(at).with_help(token_help(fault, token.as_ref())))
+    Ok(Found::in_plan(at).with_help(help))
 }
 
 /// A declaration's literal that isn't read. Nothing where it is read.
@@ -106,59 +107,86 @@ fn faulty_literal(alloc: Global, found: DeclaredSite<'_>) -> Result<&[u8], Alloc
     }
 }
 
-/// What helps where a text isn't read on at a token. At the end of the text there is none.
-fn token_help(fault: &ExprFault, token: Option<&Token>) -> &'static str {
+/// Appends what is written in place of what isn't read on at a byte, where that can be spelled. Gives what helps.
+fn write_slip(
+    quote: &mut String,
+    source: Source<'_>,
+    fault: &ExprFault,
+    text: &[u8],
+    at: usize,
+) -> Result<&'static str, AllocError> {
+    let tokens = read_tokens(*quote.allocator(), text)?;
+    let stop = Stop::new(text, &tokens, at);
+    match slip_of(fault, &stop) {
+        Some(slip) => {
+            slip.write(quote, source)?;
+            Ok(slip.help())
+        }
+        None => Ok(token_help(fault, &stop)),
+    }
+}
+
+/// What the writer may have meant, where that is known.
+fn slip_of<'a>(fault: &ExprFault, stop: &Stop<'a>) -> Option<Slip<'a>> {
     match fault {
-        ExprFault::Syntax { .. } => syntax_help(token),
-        ExprFault::Unsupported { .. } => profile_help(token),
+        ExprFault::Syntax { .. } | ExprFault::Unsupported { .. } => slip_at(stop),
+        ExprFault::Number { .. } => comma_slip(stop),
+        ExprFault::BinaryFraction { .. } | ExprFault::Deep { .. } | ExprFault::Memory => None,
+    }
+}
+
+/// What helps where it isn't known what the writer meant.
+fn token_help(fault: &ExprFault, stop: &Stop<'_>) -> &'static str {
+    match fault {
+        ExprFault::Syntax { .. } => syntax_help(stop),
+        ExprFault::Unsupported { .. } => profile_help(stop),
         _ => expression_help(fault).unwrap_or(CHANGED),
     }
 }
 
-fn syntax_help(token: Option<&Token>) -> &'static str {
-    match token {
+fn syntax_help(stop: &Stop<'_>) -> &'static str {
+    match stop.token() {
         None => "the text ends too early: an operand, a bracket or a part of it is missing",
-        Some(Token::Name(name)) => name_help(name),
         Some(Token::Mark(Sign::Equals)) => {
             "a = may stand once, behind the target of an EVAL; a comparison is written =="
         }
         Some(Token::Operator(Binary::Same)) => {
             "a == compares two values; in an EVAL a single = stands behind the target"
         }
-        Some(_) => SEE_BEFORE,
+        Some(_) => "see what stands before it, its brackets and its commas",
     }
 }
 
-/// What helps where another token is expected.
-const SEE_BEFORE: &str = "see what stands before it, its brackets and its commas";
-
-/// What helps where another token than a name is expected.
-fn name_help(name: &Name) -> &'static str {
-    if name.bytes() == b"MathContext".as_slice() {
-        "a MathContext isn't part of the profile: write a scale and a rounding mode, as in A.divide(B, 2, BigDecimal.ROUND_DOWN)"
-    } else {
-        SEE_BEFORE
-    }
-}
-
-fn profile_help(token: Option<&Token>) -> &'static str {
-    match token {
+fn profile_help(stop: &Stop<'_>) -> &'static str {
+    match stop.token() {
         Some(Token::Mark(Sign::Close)) => {
             "setScale lacks its rounding mode: write it behind the scale, as in A.setScale(2, BigDecimal.ROUND_DOWN)"
         }
         Some(Token::Keyword(Keyword::BigDecimal | Keyword::RoundingMode)) => {
             "divide lacks its scale: write it before the rounding mode, as in A.divide(B, 2, BigDecimal.ROUND_DOWN)"
         }
-        Some(Token::Name(name)) if is_whole_part(name) => {
+        _ if is_whole_part(stop) => {
             "the whole part of a BigDecimal A is A.setScale(0, BigDecimal.ROUND_DOWN), and needs no BigDecimal.valueOf(..) round it"
         }
+        _ if is_behind_class(stop) => "of BigDecimal there are valueOf, ZERO, ONE and TEN",
         _ => {
             "there are add, subtract, multiply, divide, setScale, compareTo, min, max, negate and abs, and of BigDecimal valueOf, ZERO, ONE, TEN and the modes ROUND_.."
         }
     }
 }
 
-/// Whether a name is that of a call of Java's that gives the whole part of a BigDecimal.
-fn is_whole_part(name: &Name) -> bool {
-    matches!(name.bytes(), b"longValue" | b"intValue" | b"toBigInteger")
+/// Whether it stands behind `BigDecimal` and a point.
+fn is_behind_class(stop: &Stop<'_>) -> bool {
+    match stop.token_before(2) {
+        Some(Token::Keyword(keyword)) => keyword == Keyword::BigDecimal,
+        _ => false,
+    }
+}
+
+/// Whether a call of Java's stands there that gives the whole part of a BigDecimal.
+fn is_whole_part(stop: &Stop<'_>) -> bool {
+    match name_at(stop.tokens, stop.number) {
+        Some(name) => matches!(name.bytes(), b"longValue" | b"intValue" | b"toBigInteger"),
+        None => false,
+    }
 }

@@ -117,7 +117,9 @@ fn range_help(fault: &RangeFault) -> Option<&'static str>
     match fault {
         RangeFault::At { cause, .. } => Some(cause_help(*cause)),
         RangeFault::Output { .. } => {
-            Some("round it by setScale, or narrow the ranges in the range file")
+            Some(
+                "round it by setScale where it has too many digits, and where it is too great bound it by min or narrow the ranges in the range file",
+            )
         }
         RangeFault::Memory(_) => None,
     }

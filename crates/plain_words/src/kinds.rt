@@ -90,6 +90,7 @@ fn find_mismatch(source: Source<'_>, place: &Place, quote: &mut String) -> Resul
     ensures { IfOk result (λ found. IsOfPlan found) }
 {
     let node = write_node(quote, source, place)?;
+    quote.push_str(&node.remedy)?;
     let at = statement_byte(source, &place.method, place.stmt, node.at);
     let mut found = Found::in_plan(at).with_help(node.takes);
     found.also = node.also;

@@ -2,6 +2,7 @@
 #![tactic(auto)]
 
 mod bounds;
+mod circles;
 mod counting;
 mod elements;
 mod encoding;
@@ -16,6 +17,7 @@ mod lines;
 mod methods;
 mod misplaced;
 mod nodes;
+mod numerals;
 mod ordinal;
 mod other_entries;
 mod place;
@@ -24,8 +26,10 @@ mod quotes;
 mod range_file;
 mod ranges;
 mod reason;
+mod remedies;
 mod section;
 mod sites;
+mod slips;
 mod state;
 mod statements;
 mod stops;

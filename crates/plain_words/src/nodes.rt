@@ -1,5 +1,6 @@
 //! The nodes of a statement's expression by their numbers.
 use crate::quotes::write_quoted;
+use crate::remedies::{Role, kind_of, write_remedy};
 use crate::sites::{Source, declaration_of, statement_of, write_statement};
 use pap_expr::{ExprFault, Stretch, parse_assign_placed, parse_expr_placed};
 use pap_reader::RawStmt;
@@ -7,23 +8,18 @@ use pap_tree::{Binary, Call, Expr, Kind, Name, Place, Unary, find_node, print_ex
 use std::alloc::{AllocError, Global};
 
 /// What is said of a node of an expression.
-#[derive(Clone, Copy)]
+#[derive(Drop)]
 pub(crate) struct Node {
     /// The byte of the statement's text at which it begins.
     pub at: usize,
+    /// What is written in its place, as ``; write `J = 3` ``, where that is known; else nothing.
+    pub remedy: String,
     /// Which operands it takes, where the node is known.
     pub takes: &'static str,
     /// What has to come of it, where it is the whole expression.
     pub also: &'static str,
-}
-
-/// What an expression is in its statement.
-#[derive(Clone, Copy)]
-enum Role {
-    /// The value that a target is given.
-    Value(Name),
-    /// The test of an IF.
-    Test,
+    /// The table of which it is an item.
+    pub table: Option<Name>,
 }
 
 /// The expression of a statement.
@@ -45,12 +41,17 @@ pub(crate) fn write_node(
         Some(statement) => write_spelling(out, source, statement, place.node)?,
         None => None,
     };
-    let node = found.unwrap_or(Node {
-        at: 0,
-        takes: "see their types",
-        also: "",
-    });
     out.push_str(if found.is_some() { " in " } else { ", in " })?;
+    let node = match found {
+        Some(node) => node,
+        None => Node {
+            at: 0,
+            remedy: String::new(*out.allocator()),
+            takes: "see their types",
+            also: "",
+            table: None,
+        },
+    };
     write_statement(out, source, &place.method, place.stmt, node.at)?;
     Ok(node)
 }
@@ -73,15 +74,29 @@ fn write_spelling(
     write_quoted(out, &print_expr(alloc, node)?, 0)?;
     let is_part = find_node(&read.expression, number.saturating_add(1)).is_some();
     let stretch = read.nodes.get(number as usize);
+    let mut remedy = String::new(alloc);
+    if !is_part {
+        write_remedy(&mut remedy, source, read.role, node)?;
+    }
     Ok(Some(Node {
         at: stretch.map(|bytes| bytes.first).unwrap_or(0),
+        remedy,
         takes: taken_here(source, read.role, is_part, node),
         also: if is_part {
             ""
         } else {
             whole_words(source, read.role)
         },
+        table: table_of(node),
     }))
+}
+
+/// The table of which a node is an item.
+fn table_of(node: &Expr) -> Option<Name> {
+    match node {
+        Expr::Item(table, _) => Some(*table),
+        _ => None,
+    }
 }
 
 /// The expression of a statement, where it has one and it is read.
@@ -144,18 +159,18 @@ fn target_words(kind: Kind) -> &'static str {
 /// Which operands a node takes, or what it is, where that is what doesn't go together.
 fn taken_here(source: Source<'_>, role: Role, is_part: bool, node: &Expr) -> &'static str {
     match (node, role) {
-        (Expr::Var(name), _) => match declaration_of(source, name) {
-            Some(site) => own_words(site.declared.kind),
-            None => taken_kinds(node),
-        },
+        (Expr::Point(_), _) => "it is a number with a point",
         (Expr::Call(Call::CompareTo, _, _), Role::Test) if !is_part => {
             "compareTo takes two values of BigDecimal and gives -1, 0 or 1, which isn't a test yet: compare it with 0, as in A.compareTo(B) > 0"
         }
-        _ => taken_kinds(node),
+        _ => match kind_of(source, node) {
+            Some(kind) => own_words(kind),
+            None => taken_kinds(node),
+        },
     }
 }
 
-/// Of which type a name is.
+/// Of which type a name or another expression is.
 fn own_words(kind: Kind) -> &'static str {
     match kind {
         Kind::Int => "it is an int",

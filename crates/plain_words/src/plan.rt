@@ -105,7 +105,7 @@ fn find_within(
     match refusal {
         PlanRefusal::Expr { spot, fault } => find_expression(source, spot, fault, told),
         PlanRefusal::Types(fault) => find_kind(source, fault, told),
-        PlanRefusal::Order(fault) => find_order(source, fault),
+        PlanRefusal::Order(fault) => find_order(source, fault, told),
         PlanRefusal::Range(fault) => find_range(source, fault, told),
         _ => Ok(Found::in_plan(None)),
     }

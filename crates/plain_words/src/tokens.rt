@@ -21,15 +21,129 @@ pub(crate) fn name_byte(
     Ok(None)
 }
 
-/// The token that begins at a byte of a text. `None` where none does, as at its end.
-pub(crate) fn token_from(
-    alloc: Global,
-    text: &[u8],
-    at: usize,
-) -> Result<Option<Token>, AllocError> {
-    let tokens = read_tokens(alloc, text)?;
-    let found = tokens.iter().find(|found| found.at == at);
-    Ok(found.map(|found| found.token))
+/// Where the text of an expression isn't read on.
+#[derive(Clone, Copy)]
+pub(crate) struct Stop<'a> {
+    pub text: &'a [u8],
+    pub tokens: &'a [Placed],
+    /// The byte of the text.
+    pub at: usize,
+    /// The number of the token there, from 0; at the end of the text how many there are.
+    pub number: usize,
+}
+
+impl<'a> Stop<'a> {
+    /// The stop at a byte of a text with these tokens.
+    pub(crate) fn new(text: &'a [u8], tokens: &'a [Placed], at: usize) -> Stop<'a> {
+        let number = tokens.iter().position(|found| found.at == at);
+        Stop {
+            text,
+            tokens,
+            at,
+            number: number.unwrap_or(tokens.len()),
+        }
+    }
+
+    /// The token there. `None` at the end of the text.
+    pub(crate) fn token(&self) -> Option<Token> {
+        self.token_before(0)
+    }
+
+    /// The token that stands so many tokens before it.
+    pub(crate) fn token_before(&self, count: usize) -> Option<Token> {
+        let number = self.number.checked_sub(count)?;
+        token_of(self.tokens, number)
+    }
+
+    /// Whether a sign stands so many tokens before it.
+    pub(crate) fn has_mark_before(&self, count: usize, sign: Sign) -> bool {
+        match self.number.checked_sub(count) {
+            Some(number) => is_mark(self.tokens, number, sign),
+            None => false,
+        }
+    }
+
+    /// The byte before it.
+    pub(crate) fn byte_before(&self) -> Option<u8> {
+        byte_of(self.text, self.at.checked_sub(1)?)
+    }
+
+    /// The byte there.
+    pub(crate) fn byte(&self) -> Option<u8> {
+        byte_of(self.text, self.at)
+    }
+
+    /// The byte behind that.
+    pub(crate) fn byte_behind(&self) -> Option<u8> {
+        byte_of(self.text, self.at.checked_add(1)?)
+    }
+
+    /// The call in whose bracket it stands, where that is the innermost one that is open.
+    pub(crate) fn call(&self) -> Option<OpenCall> {
+        open_call(self.tokens, self.number)
+    }
+}
+
+/// A call whose bracket is open.
+#[derive(Clone, Copy)]
+pub(crate) struct OpenCall {
+    /// The word before its bracket.
+    pub word: Name,
+    /// The number of that word among the tokens.
+    pub number: usize,
+    /// How many commas its bracket has so far.
+    pub commas: usize,
+}
+
+/// The call whose bracket is the innermost that is open before a token.
+fn open_call(tokens: &[Placed], end: usize) -> Option<OpenCall> {
+    let mut closed = 0usize;
+    let mut commas = 0usize;
+    for number in (0..end).rev() {
+        if is_mark(tokens, number, Sign::Close) {
+            closed = closed.saturating_add(1);
+        } else if is_mark(tokens, number, Sign::Open) {
+            if closed == 0 {
+                return call_before(tokens, number, commas);
+            }
+            closed = closed.saturating_sub(1);
+        } else if closed == 0 && is_mark(tokens, number, Sign::Comma) {
+            commas = commas.saturating_add(1);
+        }
+    }
+    None
+}
+
+/// The call of the word before a bracket, which has so many commas.
+fn call_before(tokens: &[Placed], bracket: usize, commas: usize) -> Option<OpenCall> {
+    let number = bracket.checked_sub(1)?;
+    let word = name_at(tokens, number)?;
+    Some(OpenCall {
+        word,
+        number,
+        commas,
+    })
+}
+
+/// The name that the token of a number is.
+pub(crate) fn name_at(tokens: &[Placed], number: usize) -> Option<Name> {
+    match token_of(tokens, number)? {
+        Token::Name(name) => Some(name),
+        _ => None,
+    }
+}
+
+/// The token of a number.
+pub(crate) fn token_of(tokens: &[Placed], number: usize) -> Option<Token> {
+    match tokens.get(number) {
+        Some(found) => Some(found.token),
+        None => None,
+    }
+}
+
+/// The byte at a place of a text.
+fn byte_of(text: &[u8], at: usize) -> Option<u8> {
+    text.get(at).copied()
 }
 
 /// Whether a sign stands right before a token.
@@ -41,7 +155,7 @@ fn stands_behind(tokens: &[Placed], at: usize, sign: Sign) -> bool {
 }
 
 /// Whether a token is a sign.
-fn is_mark(tokens: &[Placed], at: usize, sign: Sign) -> bool {
+pub(crate) fn is_mark(tokens: &[Placed], at: usize, sign: Sign) -> bool {
     match tokens.get(at) {
         Some(found) => match found.token {
             Token::Mark(other) => other == sign,
