@@ -46,10 +46,7 @@ impl Note {
 
 /// How wide a line of a comment is, in tenths of a px.
 fn line_tenths(line: &[u8]) -> u32 {
-    let capitals = line
-        .iter()
-        .filter(|byte| byte.is_ascii_uppercase())
-        .count();
+    let capitals = line.iter().filter(|byte| byte.is_ascii_uppercase()).count();
     let others = count_chars(line).saturating_sub(capitals);
     tenths(capitals, NOTE_CAPITAL).saturating_add(tenths(others, NOTE_CHAR))
 }

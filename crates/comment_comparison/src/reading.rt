@@ -20,11 +20,7 @@ pub fn read_comments(alloc: Global, file: &[u8]) -> Result<Vec<Comment>, AllocEr
 }
 
 /// The same of a file whose tokens are read.
-fn comments_of(
-    alloc: Global,
-    file: &[u8],
-    tokens: &Tokens<'_>,
-) -> Result<Vec<Comment>, AllocError>
+fn comments_of(alloc: Global, file: &[u8], tokens: &Tokens<'_>) -> Result<Vec<Comment>, AllocError>
     requires { AreRead file.now tokens.now }
     ensures { IfOk result (λ comments. HasComments file.now comments.items) }
 {

@@ -5,7 +5,7 @@ use Rattle.pap_reader.specs.Trees.{ElementTree}
 use Rattle.pap_reader.specs.Elements.{IsElementText, IsElements, IsFault}
 use Rattle.pap_reader.specs.Tokens.{PlacedTag, Reads, IsAlien}
 use Rattle.pap_reader.specs.declared.tokens.Token.{Token as ReadToken}
-use Rattle.pap_reader.specs.Contents.{Token, HasTokens, AreTokens, tags_of, token_byte, StandInOrder, token_of}
+use Rattle.pap_reader.specs.Contents.{Token, HasTokens, AreTokens, tags_of, token_byte, StandInOrder, token_meant}
 use Rattle.pap_reader.proofs.OneReading as reading
 use Rattle.pap_reader.proofs.TokenLemmas as told
 use Rattle.pap_reader.proofs.OrderLemmas as order
@@ -61,10 +61,10 @@ order_from = order.order_from
 
 -- The first tokens of a list with one more; a slice `ys` has it.
 pub one_token_more : (xs ys : List ReadToken) (i : ℕ) (t : ReadToken) → ys ≡ xs → i < length ys → t ≡ get_or ys i t
-    → map token_of (take (i + 1) xs) ≡ map token_of (take i xs) ++ (token_of t ∷ [])
+    → map token_meant (take (i + 1) xs) ≡ map token_meant (take i xs) ++ (token_meant t ∷ [])
 one_token_more = told.one_token_more
 
 -- Those from a number on, of which the first is this one.
 pub tokens_left : (xs ys : List ReadToken) (i : ℕ) (t u : ReadToken) → ys ≡ xs → i < length ys → t ≡ get_or ys i t → t ≡ u
-    → map token_of (drop i xs) ≡ token_of u ∷ map token_of (drop (i + 1) xs)
+    → map token_meant (drop i xs) ≡ token_meant u ∷ map token_meant (drop (i + 1) xs)
 tokens_left = told.tokens_left

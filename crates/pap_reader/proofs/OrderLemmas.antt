@@ -41,9 +41,13 @@ order_told {n} (white {b} {next} {ts} w h) le =
     order_from (n - length (b ∷ next)) (n - length next) n (map token_byte ts) (omega arith) (order_told h (omega arith))
 order_told {n} (token {bytes} {next} {ts} t i h) le =
     let there = token_there (n - length bytes) bytes next t i in
-    let less = token_shorter (n - length bytes) bytes next t i in
-    (omega arith, (omega arith,
-    order_from (token_byte t) (n - length next) n (map token_byte ts) (omega arith) (order_told h (omega arith))))
+    let less = token_shorter (n - length bytes) bytes next t i in (
+      omega arith,
+      (
+        omega arith,
+        order_from (token_byte t) (n - length next) n (map token_byte ts) (omega arith) (order_told h (omega arith)),
+      ),
+    )
 
 pub tokens_in_order : (file rest : List ℕ) (ts : List Token) → AreTokens file ts rest
     → StandInOrder 0 (map token_byte ts) (length file)

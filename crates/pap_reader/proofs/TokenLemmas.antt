@@ -13,7 +13,7 @@ use Rattle.pap_reader.specs.Skipped.{Past, here, later, IsPassed, IsAfterProlog,
 use Rattle.pap_reader.specs.Skipped as skipped
 use Rattle.pap_reader.specs.Tokens.{PlacedTag, Leads, Reads, IsAlien, placed}
 use Rattle.pap_reader.specs.Tokens as tokens
-use Rattle.pap_reader.specs.Contents.{Token, remark, tagged, IsComment, IsToken, Tells, nothing, white, token, HasTokens, tag_in, tags_of, token_of}
+use Rattle.pap_reader.specs.Contents.{Token, remark, tagged, IsComment, IsToken, Tells, nothing, white, token, HasTokens, tag_in, tags_of, token_meant}
 use Rattle.pap_reader.specs.private.Views.{NoComment, NoToken}
 use Rattle.pap_reader.proofs.Passing.{unpassed}
 
@@ -183,46 +183,46 @@ reached file rest a b t h =
 
 -- The list of a slice `ys` is that of its `Vec`.
 pub one_token_more : (xs ys : List ReadToken) (i : ℕ) (t : ReadToken) → ys ≡ xs → i < length ys → t ≡ get_or ys i t
-    → map token_of (take (i + 1) xs) ≡ map token_of (take i xs) ++ (token_of t ∷ [])
+    → map token_meant (take (i + 1) xs) ≡ map token_meant (take i xs) ++ (token_meant t ∷ [])
 one_token_more xs ys i t same lt e =
-    subst (λ zs. map token_of (take (i + 1) zs) ≡ map token_of (take i zs) ++ (token_of t ∷ [])) same
-    (ap (map token_of) (take_more ys i t lt) ∙ map-append token_of (take i ys) (get_or ys i t ∷ [])
-    ∙ ap (λ z. map token_of (take i ys) ++ (token_of z ∷ [])) (sym e))
+    subst (λ zs. map token_meant (take (i + 1) zs) ≡ map token_meant (take i zs) ++ (token_meant t ∷ [])) same
+    (ap (map token_meant) (take_more ys i t lt) ∙ map-append token_meant (take i ys) (get_or ys i t ∷ [])
+    ∙ ap (λ z. map token_meant (take i ys) ++ (token_meant z ∷ [])) (sym e))
 
 -- The tokens from a number on.
 pub tokens_left : (xs ys : List ReadToken) (i : ℕ) (t u : ReadToken) → ys ≡ xs → i < length ys → t ≡ get_or ys i t → t ≡ u
-    → map token_of (drop i xs) ≡ token_of u ∷ map token_of (drop (i + 1) xs)
+    → map token_meant (drop i xs) ≡ token_meant u ∷ map token_meant (drop (i + 1) xs)
 tokens_left xs ys i t u same lt e is =
-    subst (λ zs. map token_of (drop i zs) ≡ token_of u ∷ map token_of (drop (i + 1) zs)) same
-    (ap (map token_of) (drop_more ys i t lt) ∙ ap (λ z. token_of z ∷ map token_of (drop (i + 1) ys)) (sym e ∙ is))
+    subst (λ zs. map token_meant (drop i zs) ≡ token_meant u ∷ map token_meant (drop (i + 1) zs)) same
+    (ap (map token_meant) (drop_more ys i t lt) ∙ ap (λ z. token_meant z ∷ map token_meant (drop (i + 1) ys)) (sym e ∙ is))
 
 -- one token more is kept, and white space is passed over
-pub tokens_pushed : (file left rest next : List ℕ) (xs ys : List ReadToken) (t : ReadToken) → HasTokens file (map token_of xs) left
-    → IsToken (length file - length left) left (token_of t) rest → ys ≡ xs ++ (t ∷ []) → next ≡ drop_while is_white rest
-    → HasTokens file (map token_of ys) next
+pub tokens_pushed : (file left rest next : List ℕ) (xs ys : List ReadToken) (t : ReadToken) → HasTokens file (map token_meant xs) left
+    → IsToken (length file - length left) left (token_meant t) rest → ys ≡ xs ++ (t ∷ []) → next ≡ drop_while is_white rest
+    → HasTokens file (map token_meant ys) next
 tokens_pushed file left rest next xs ys t h i e w =
-    subst (HasTokens file (map token_of ys)) (sym w)
-    (subst (λ ts. HasTokens file ts (drop_while is_white rest)) (sym (ap (map token_of) e ∙ map-append token_of xs (t ∷ [])))
-    (tokens_more file left rest (map token_of xs) (token_of t) h i))
+    subst (HasTokens file (map token_meant ys)) (sym w)
+    (subst (λ ts. HasTokens file ts (drop_while is_white rest)) (sym (ap (map token_meant) e ∙ map-append token_meant xs (t ∷ [])))
+    (tokens_more file left rest (map token_meant xs) (token_meant t) h i))
 
 -- the tags of the first tokens
 abbrev pub tags_before : List ReadToken → ℕ → List PlacedTag
-tags_before xs i = tags_of (map token_of (take i xs))
+tags_before xs i = tags_of (map token_meant (take i xs))
 
 pub tags_more : (xs ys : List ReadToken) (i : ℕ) (t u : ReadToken) → ys ≡ xs → i < length ys → t ≡ get_or ys i t → t ≡ u
-    → tags_before xs (i + 1) ≡ tags_before xs i ++ tag_in (token_of u)
+    → tags_before xs (i + 1) ≡ tags_before xs i ++ tag_in (token_meant u)
 tags_more xs ys i t u same lt e is =
-    ap tags_of (one_token_more xs ys i t same lt e) ∙ flat_map-append tag_in (map token_of (take i xs)) (token_of t ∷ [])
-    ∙ ap (λ z. tags_before xs i ++ z) (append-nil (tag_in (token_of t))) ∙ ap (λ z. tags_before xs i ++ tag_in (token_of z)) is
+    ap tags_of (one_token_more xs ys i t same lt e) ∙ flat_map-append tag_in (map token_meant (take i xs)) (token_meant t ∷ [])
+    ∙ ap (λ z. tags_before xs i ++ z) (append-nil (tag_in (token_meant t))) ∙ ap (λ z. tags_before xs i ++ tag_in (token_meant z)) is
 
 -- the tag of a number is reached behind those before it
-pub reached_at : (file rest : List ℕ) (xs ys : List ReadToken) (i : ℕ) (t : ReadToken) (p : PlacedTag) → HasTokens file (map token_of xs) rest
-    → ys ≡ xs → i < length ys → t ≡ get_or ys i t → token_of t ≡ tagged p → Reached file (tags_before xs i) p
+pub reached_at : (file rest : List ℕ) (xs ys : List ReadToken) (i : ℕ) (t : ReadToken) (p : PlacedTag) → HasTokens file (map token_meant xs) rest
+    → ys ≡ xs → i < length ys → t ≡ get_or ys i t → token_meant t ≡ tagged p → Reached file (tags_before xs i) p
 reached_at file rest xs ys i t p h same lt e is =
-    let front : List Token = map token_of (take i xs) in
-    let behind : List Token = map token_of (drop (i + 1) xs) in
-    let whole : map token_of xs ≡ front ++ (tagged p ∷ behind) =
-    ap (map token_of) (sym (take-append-drop (i + 1) xs)) ∙ map-append token_of (take (i + 1) xs) (drop (i + 1) xs)
-    ∙ ap (λ z. z ++ behind) (one_token_more xs ys i t same lt e) ∙ append_assoc front (token_of t ∷ []) behind
+    let front : List Token = map token_meant (take i xs) in
+    let behind : List Token = map token_meant (drop (i + 1) xs) in
+    let whole : map token_meant xs ≡ front ++ (tagged p ∷ behind) =
+    ap (map token_meant) (sym (take-append-drop (i + 1) xs)) ∙ map-append token_meant (take (i + 1) xs) (drop (i + 1) xs)
+    ∙ ap (λ z. z ++ behind) (one_token_more xs ys i t same lt e) ∙ append_assoc front (token_meant t ∷ []) behind
     ∙ ap (λ z. front ++ (z ∷ behind)) is in
     reached file rest front behind p (subst (λ ts. HasTokens file ts rest) whole h)

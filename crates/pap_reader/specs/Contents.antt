@@ -65,13 +65,13 @@ StandInOrder from (at ∷ bytes) end = (from ≤ at) × ((at < end) × StandInOr
 -- ---- as the code has them
 
 -- the token that a read one stands for
-abbrev pub token_of : ReadToken → Token
-token_of (read.Comment at inside) = remark at inside.now
-token_of (read.Tag at tag) = tagged (record { at = at; tag = tag_of tag })
+abbrev pub token_meant : ReadToken → Token
+token_meant (read.Comment at inside) = remark at inside.now
+token_meant (read.Tag at tag) = tagged (record { at = at; tag = tag_of tag })
 
 -- the tokens that read ones stand for
 abbrev pub tokens_of : Tokens → List Token
-tokens_of x = map token_of x.items.items
+tokens_of x = map token_meant x.items.items
 
 -- these are the tokens of the file
 abbrev pub AreRead : List ℕ → Tokens → Type 0

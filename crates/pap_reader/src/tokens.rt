@@ -1,7 +1,7 @@
 //! The tokens of a plan's file: its comments and tags, each with the place of its first byte.
 
 ghost use Rattle.std.specs.Prelude.{◌≡◌, ◌<◌, ◌-◌, length, MatchOption, IfOk, IfSome};
-ghost use Rattle.pap_reader.specs.Contents.{IsComment, IsToken, AreRead, token_of};
+ghost use Rattle.pap_reader.specs.Contents.{IsComment, IsToken, AreRead, token_meant};
 ghost use Rattle.pap_reader.specs.private.Views.{NoComment, NoToken};
 
 use crate::bytes::{after_text, after_white};
@@ -49,7 +49,7 @@ fn read_token(
 ) -> Result<Option<(Token<'_>, &[u8])>, AllocError>
     ensures found { IfOk result (λ o. MatchOption o
         (NoToken bytes.now)
-        (λ r. IsToken at bytes.now (token_of r.0) r.1.now)) }
+        (λ r. IsToken at bytes.now (token_meant r.0) r.1.now)) }
     ensures shorter { IfOk result (λ o. IfSome o (λ r. length r.1.now < length bytes.now)) }
 {
     if let Some((inside, rest)) = read_comment(bytes) {

@@ -24,10 +24,7 @@ pub(crate) struct Outline<'a> {
 
 impl<'a> Outline<'a> {
     /// What is read of a plan's file. `None` where it isn't read.
-    pub(crate) fn read(
-        alloc: Global,
-        plan: TextFile<'a>,
-    ) -> Result<Option<Outline<'a>>, AllocError>
+    pub(crate) fn read(alloc: Global, plan: TextFile<'a>) -> Result<Option<Outline<'a>>, AllocError>
         ensures read { IfOk result (λ read. IfSome read
             (λ outline. IsElements plan.entry.bytes.now (tree_of outline.elements))) }
         ensures unread { IfOk result (λ read. IfNone read

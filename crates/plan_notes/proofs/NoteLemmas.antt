@@ -13,7 +13,7 @@ use Rattle.pap_reader.specs.declared.tags.Form.{Form}
 use Rattle.pap_reader.specs.declared.tokens.Token.{Token as ReadToken}
 use Rattle.pap_reader.specs.Tags.{Attribute, Tag}
 use Rattle.pap_reader.specs.Marks.{element_of, marks_by, marks_of}
-use Rattle.pap_reader.specs.Contents.{Token, token_of}
+use Rattle.pap_reader.specs.Contents.{Token, token_meant}
 use Rattle.pap_reader.proofs.Laws as reader
 use Rattle.plan_notes.specs.declared.notes.Notes.{Notes}
 use Rattle.plan_notes.specs.declared.scan.Scan.{Scan}
@@ -228,12 +228,12 @@ keeps_tag a b at t f o r e i h =
 
 -- one token more
 pub holds_more : (old new : Scan) (xs ys : List ReadToken) (i : ℕ) (t : ReadToken) → ys ≡ xs → i < length ys → t ≡ get_or ys i t
-    → Holds old (items_told (map token_of (take i xs))) (root_of (map token_of (take i xs)))
-    → Keeps old new (items_by (token_of t)) (λ before. root_by before (token_of t))
-    → Holds new (items_told (map token_of (take (i + 1) xs))) (root_of (map token_of (take (i + 1) xs)))
+    → Holds old (items_told (map token_meant (take i xs))) (root_of (map token_meant (take i xs)))
+    → Keeps old new (items_by (token_meant t)) (λ before. root_by before (token_meant t))
+    → Holds new (items_told (map token_meant (take (i + 1) xs))) (root_of (map token_meant (take (i + 1) xs)))
 holds_more old new xs ys i t same lt e h k =
-    let ts : List Token = map token_of (take i xs) in
-    let u : Token = token_of t in
+    let ts : List Token = map token_meant (take i xs) in
+    let u : Token = token_meant t in
     let more : items_told (ts ++ (u ∷ [])) ≡ items_told ts ++ items_by u =
     flat_map-append items_by ts (u ∷ []) ∙ ap (λ z. items_told ts ++ z) (append-nil (items_by u)) in
     subst (λ us. Holds new (items_told us) (root_of us)) (sym (reader.one_token_more xs ys i t same lt e))

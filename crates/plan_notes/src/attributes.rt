@@ -26,11 +26,7 @@ pub fn value_byte(
 }
 
 /// The attribute of a name in the tag among the tokens that begins at a byte.
-fn attribute_at<'t, 'a>(
-    tokens: &'t Tokens<'a>,
-    at: usize,
-    name: &[u8],
-) -> Option<&'t Attribute<'a>>
+fn attribute_at<'t, 'a>(tokens: &'t Tokens<'a>, at: usize, name: &[u8]) -> Option<&'t Attribute<'a>>
     ensures { option_map (λ attribute. attribute_of attribute.now) result
         ≡ attribute_at at name.now (tokens_of tokens.now) }
 {

@@ -5,7 +5,7 @@ ghost use Rattle.std.specs.List.Sorted.{IsNonDecreasingBy};
 ghost use Rattle.pap_reader.specs.Tags.{tag_of, attributes_of};
 ghost use Rattle.pap_reader.specs.Marks.{marks_of, begins};
 ghost use Rattle.pap_reader.specs.Attributes.{attribute_value};
-ghost use Rattle.pap_reader.specs.Contents.{token_of, tokens_of};
+ghost use Rattle.pap_reader.specs.Contents.{token_meant, tokens_of};
 ghost use Rattle.plan_notes.specs.Lines.{line_text};
 ghost use Rattle.plan_notes.specs.Edges.{HasEdges, edge, edges_by};
 ghost use Rattle.plan_notes.specs.Marks.{edge_of, HaveComments};
@@ -76,7 +76,7 @@ impl Scan {
     /// Keeps a token.
     fn take(&mut self, token: &Token<'_>) -> Result<(), AllocError>
         ensures { OnOk result (Keeps self.old self.new
-            (items_by (token_of token.now)) (λ before. root_by before (token_of token.now))) }
+            (items_by (token_meant token.now)) (λ before. root_by before (token_meant token.now))) }
     {
         match token {
             Token::Comment { inside, .. } => self.keep_comment(inside),

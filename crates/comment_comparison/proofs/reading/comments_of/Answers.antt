@@ -1,7 +1,7 @@
 use Rattle.std.proofs.Common.{◌+◌, List, [], ◌∷◌, ◌++◌, length, drop, map, refl, sym, ap, subst, ◌∙◌, arith}
 use Rattle.std.proofs.lemmas.List.{append-nil, append_assoc, drop_all}
 use Rattle.pap_reader.specs.declared.tokens.Token.{Token}
-use Rattle.pap_reader.specs.Contents.{StandInOrder, token_byte, token_of, tokens_of}
+use Rattle.pap_reader.specs.Contents.{StandInOrder, token_byte, token_meant, tokens_of}
 use Rattle.pap_reader.proofs.Laws.{order_from, tokens_in_order, tokens_left}
 use Rattle.plan_notes.specs.Lines.{line_text}
 use Rattle.comment_comparison.specs.Comments.{LineComment, line_comment}
@@ -22,9 +22,9 @@ loop-token-preserved-in_default c =
     let file = c.args.file.now in
     let xs = c.args.tokens.now.items.items in
     let known = c.loop-token.invariant in
-    let more = map token_of (drop (c.loop-token.token-index + 1) xs) in
+    let more = map token_meant (drop (c.loop-token.token-index + 1) xs) in
     let next = tokens_left xs _ c.loop-token.token-index c.token-item.result _ c.deref-token-items.ensures.value
-        c.loop-token-test.true c.token-item.is c.in_default.is in
+    c.loop-token-test.true c.token-item.is c.in_default.is in
     let order = subst (λ ts. StandInOrder c.loop-token.counted (map token_byte ts) (length file)) next known.order in
     record {
       comments = ap (λ ts. c.loop-token.comments.items ++ comments_in file ts) (sym next) ∙ known.comments;
@@ -35,9 +35,9 @@ loop-token-preserved-in_default c =
 pub line_behind-line-requires : goal.line_behind-line-requires
 line_behind-line-requires c =
     let next = tokens_left c.args.tokens.now.items.items _ c.loop-token.token-index c.token-item.result _
-        c.deref-token-items.ensures.value c.loop-token-test.true c.token-item.is c.in-Comment.is in
+    c.deref-token-items.ensures.value c.loop-token-test.true c.token-item.is c.in-Comment.is in
     let order = subst (λ ts. StandInOrder c.loop-token.counted (map token_byte ts) (length c.args.file.now)) next
-        c.loop-token.invariant.order in
+    c.loop-token.invariant.order in
     record { known = c.loop-token.invariant.line; order = order.0; within = omega (arith, order.1.0) }
 
 pub loop-token-preserved : goal.loop-token-preserved
@@ -47,9 +47,9 @@ loop-token-preserved c =
     let known = c.loop-token.invariant in
     let old : List LineComment = c.loop-token.comments.items in
     let text = line_text c.in-Comment.inside.now in
-    let more = comments_in file (map token_of (drop (c.loop-token.token-index + 1) xs)) in
+    let more = comments_in file (map token_meant (drop (c.loop-token.token-index + 1) xs)) in
     let next = tokens_left xs _ c.loop-token.token-index c.token-item.result _ c.deref-token-items.ensures.value
-        c.loop-token-test.true c.token-item.is c.in-Comment.is in
+    c.loop-token-test.true c.token-item.is c.in-Comment.is in
     let order = subst (λ ts. StandInOrder c.loop-token.counted (map token_byte ts) (length file)) next known.order in
     record {
       comments = ap (λ cs. cs ++ more) c.in_ok-keep_comment.ensures
@@ -67,4 +67,4 @@ returns c =
     let cs : List LineComment = c.loop-token.comments.items in
     let all = drop_all c.loop-token.token-index xs (omega (arith, ap length c.deref-token-items.ensures.value)) in
     comments_whole file c.args.tokens.now.left.now (tokens_of c.args.tokens.now) cs c.requires
-    (sym (append-nil cs) ∙ ap (λ zs. cs ++ comments_in file (map token_of zs)) (sym all) ∙ c.loop-token.invariant.comments)
+    (sym (append-nil cs) ∙ ap (λ zs. cs ++ comments_in file (map token_meant zs)) (sym all) ∙ c.loop-token.invariant.comments)

@@ -2,7 +2,7 @@ use Rattle.std.proofs.Common.{map, ap, sym, subst, ◌∙◌, arith}
 use Rattle.std.proofs.lemmas.Option.{MatchOption-at_none}
 use Rattle.pap_tree.specs.White.{is_white}
 use Rattle.pap_reader.specs.Bytes.{begins_with}
-use Rattle.pap_reader.specs.Contents.{HasTokens, token_of}
+use Rattle.pap_reader.specs.Contents.{HasTokens, token_meant}
 use Rattle.pap_reader.proofs.ReaderSteps.{at_some}
 use Rattle.pap_reader.proofs.TokenLemmas.{tokens_start, tokens_pushed, black, ended}
 use Rattle.pap_reader.proofs.tokens.read_tokens.Goals as goal
@@ -11,8 +11,8 @@ pub loop-items-init : goal.loop-items-init
 loop-items-init c =
     let e = c.after_white-left.ensures.left in
     record {
-      read = subst (HasTokens c.args.file.now (map token_of c.new-items.result.items)) (sym e)
-          (tokens_start c.args.file.now c.after_prolog.result.now _ c.after_prolog.ensures.passed (ap (map token_of) c.new-items.ensures.items));
+      read = subst (HasTokens c.args.file.now (map token_meant c.new-items.result.items)) (sym e)
+          (tokens_start c.args.file.now c.after_prolog.result.now _ c.after_prolog.ensures.passed (ap (map token_meant) c.new-items.ensures.items));
       black = ap (begins_with is_white) e ∙ black c.after_prolog.result.now;
       shorter = omega (arith, c.after_white-left.ensures.shorter, c.after_prolog.ensures.shorter);
     }

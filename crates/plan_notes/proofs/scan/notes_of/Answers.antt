@@ -1,7 +1,7 @@
 use Rattle.std.proofs.Common.{List, length, arith, ap, map, subst}
 use Rattle.std.proofs.lemmas.List.{take_all}
 use Rattle.pap_reader.specs.declared.tokens.Token.{Token}
-use Rattle.pap_reader.specs.Contents.{token_of}
+use Rattle.pap_reader.specs.Contents.{token_meant}
 use Rattle.plan_notes.specs.Contents.{items_told, root_of}
 use Rattle.plan_notes.specs.private.ScanViews.{Holds}
 use Rattle.plan_notes.proofs.NoteLemmas.{holds_more}
@@ -19,5 +19,5 @@ pub returns : goal.returns
 returns c =
     let xs : List Token = c.args.tokens.now.items.items in
     let all = take_all c.loop-token.token-index xs (omega (arith, ap length c.deref-token-items.ensures.value)) in
-    let h = subst (λ z. Holds c.loop-token.scan (items_told (map token_of z)) (root_of (map token_of z))) all c.loop-token.invariant in
+    let h = subst (λ z. Holds c.loop-token.scan (items_told (map token_meant z)) (root_of (map token_meant z))) all c.loop-token.invariant in
     record { behind = c.loop-token.scan.first; in_turn = h.in_turn; within = h.within; items = h.told; root = h.says }

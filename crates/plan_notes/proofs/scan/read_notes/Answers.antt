@@ -16,7 +16,7 @@ returns c =
     let tokens = c.in_ok-tokens.tokens in
     let made = c.notes_of.result in
     let whole = IfOk-weaker made (λ notes. IsNoted (tokens_of tokens) notes) (λ notes. HasNotes file notes)
-        (λ notes noted. whole_notes file tokens notes c.in_ok-tokens.ensures noted) c.notes_of.ensures in
+    (λ notes noted. whole_notes file tokens notes c.in_ok-tokens.ensures noted) c.notes_of.ensures in
     record {
       notes = whole;
       tags = IfOk-weaker made (λ notes. HasNotes file notes) (λ notes. HasEdges file (map edge_of notes.marks.items))
