@@ -2,6 +2,7 @@
 ghost use Rattle.std.specs.Prelude.{◌≡◌, IfOk, IfSome, IfNone};
 ghost use Rattle.pap_reader.specs.Trees.{tree_of, ElementTree};
 ghost use Rattle.pap_reader.specs.Elements.{IsElements};
+ghost use Rattle.pap_reader.specs.Contents.{AreRead};
 ghost use Rattle.plain_words.specs.private.SiteViews.{declares_input};
 
 use crate::group::Group;
@@ -31,17 +32,13 @@ impl<'a> Outline<'a> {
             ((tree : ElementTree) → ¬ (IsElements plan.entry.bytes.now tree))) }
     {
         let tokens = read_tokens(alloc, plan.bytes)?;
-        match elements_of(alloc, plan.bytes, &tokens) {
-            Ok(elements) => {
-                let notes = notes_of(alloc, &tokens)?;
-                Ok(Some(Outline {
-                    tokens,
-                    elements,
-                    notes,
-                }))
-            }
-            Err(ReadFault::Memory) => Err(AllocError),
-            Err(_) => Ok(None),
+        match parts_of(alloc, plan.bytes, &tokens)? {
+            Some((elements, notes)) => Ok(Some(Outline {
+                tokens,
+                elements,
+                notes,
+            })),
+            None => Ok(None),
         }
     }
 
@@ -55,6 +52,28 @@ impl<'a> Outline<'a> {
             elements: &self.elements,
             notes: &self.notes,
         }
+    }
+}
+
+/// The elements and the notes of a file's tokens. `None` where it isn't read as a plan.
+fn parts_of(
+    alloc: Global,
+    file: &[u8],
+    tokens: &Tokens<'_>,
+) -> Result<Option<(Elements, Notes)>, AllocError>
+    requires { AreRead file.now tokens.now }
+    ensures read { IfOk result (λ read. IfSome read
+        (λ parts. IsElements file.now (tree_of parts.0))) }
+    ensures unread { IfOk result (λ read. IfNone read
+        ((tree : ElementTree) → ¬ (IsElements file.now tree))) }
+{
+    match elements_of(alloc, file, tokens) {
+        Ok(elements) => {
+            let notes = notes_of(alloc, tokens)?;
+            Ok(Some((elements, notes)))
+        }
+        Err(ReadFault::Memory) => Err(AllocError),
+        Err(_) => Ok(None),
     }
 }
 

@@ -110,7 +110,7 @@ fn write_width_fault(told: &mut String, table: &[u8], row: &TableRow) -> Result<
     };
     write!(told, "it has {found} {noun}, and the header has {wanted}; ")?;
     told.push_str(if found == wanted.saturating_add(1) && row.field(wanted).is_empty() {
-        "take out the comma at its end"
+        "a value has a point before its decimal places, not a comma; where each value stands under its own name, take out the comma at its end"
     } else if row.field(0).contains(&b';') {
         "write commas between the fields, not semicolons, and a point before decimal places"
     } else if found > wanted {

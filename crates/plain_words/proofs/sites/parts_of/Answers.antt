@@ -3,7 +3,7 @@ use Rattle.pap_reader.specs.declared.fault.ReadFault.{ReadFault}
 use Rattle.pap_reader.specs.declared.fault.ReadFault.TheVariants as reads
 use Rattle.pap_reader.specs.Elements.{IsFault, IsFaultOrMemory}
 use Rattle.pap_reader.proofs.Laws.{never_both}
-use Rattle.plain_words.proofs.sites.Outline.read.Goals as goal
+use Rattle.plain_words.proofs.sites.parts_of.Goals as goal
 
 -- a fault that isn't want of memory
 is_fault : (bytes : List ℕ) (f : ReadFault) → f ≢ reads.Memory → IsFaultOrMemory bytes f → IsFault bytes f
@@ -17,7 +17,7 @@ pub returns-in-Err : goal.returns-in-Err
 returns-in-Err c =
     let fault = c.in-Err.field-0 in
     let other : fault ≢ reads.Memory = search rules in
-    let bytes = c.args.plan.bytes.now in
+    let bytes = c.args.file.now in
     record {
       read = tt;
       unread = λ tree is. never_both bytes tree fault is (is_fault bytes fault other c.in-Err.ensures.refused);
