@@ -6,4 +6,4 @@ refused-requires c = its_plan c.args.plan.bytes.now c.args.limits.bytes.now c.ar
 
 pub refusal_words-requires : goal.refusal_words-requires
 refusal_words-requires c =
-    refused_is c.args.plan.bytes.now c.args.limits.bytes.now c.args.fault.now _ c.requires c.in_ok-refused.ensures
+    refused_is c.args.plan.bytes.now c.args.limits.bytes.now c.args.fault.now _ c.requires c.in_ok-text.ensures
