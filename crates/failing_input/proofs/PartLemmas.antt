@@ -82,7 +82,7 @@ judged f limits (Ok v) b walked fault h = h ∙ sym (ap (λ (r : Result Ranges W
 judged f limits (Err (faults.At place cause)) b walked fault h =
     h ∙ sym (ap (λ (r : Result Ranges WalkFault). is_ok r) fault.1)
 judged f limits (Err (faults.Output name)) b walked fault h =
-    h ∙ sym (ap (λ (r : Result Ranges WalkFault). is_ok r) fault)
+    h ∙ sym (ap (λ (r : Result Ranges WalkFault). is_ok r) fault.1)
 judged f limits (Err (faults.Memory e)) b walked fault h = absurd h
 
 ok_there : (r : Result Ranges WalkFault) → true ≡ is_ok r → (x : Ranges) × (r ≡ Ok x)

@@ -47,9 +47,9 @@ module _ (ds : List Declared) (rs : List Interval) (e : length rs ≡ length ds)
       ∙ ap (λ b. if not b then Some (record { name = (get_or ds i d).name; range = get_or rs i r }) else find is_unbounded (drop (i + 1) (with_names (output_names ds) rs))) h
 
   -- the first that may be beyond its bound
-  pub stops : find is_unbounded (with_names (output_names ds) rs) ≡ find is_unbounded (drop i (with_names (output_names ds) rs)) → is_bounded (get_or rs i r) ≡ false → unless_unbounded (with_names (output_names ds) rs) ≡ Err (output_fails (get_or ds i d).name)
+  pub stops : find is_unbounded (with_names (output_names ds) rs) ≡ find is_unbounded (drop i (with_names (output_names ds) rs)) → is_bounded (get_or rs i r) ≡ false → unless_unbounded (with_names (output_names ds) rs) ≡ Err (output_fails (get_or ds i d).name (get_or rs i r))
   stops left h =
-      ap (λ o. option_map_or (λ (o : NamedRange). Err (output_fails o.name)) o (Ok (with_names (output_names ds) rs))) (left ∙ found false h)
+      ap (λ o. option_map_or (λ (o : NamedRange). Err (output_fails o.name o.range)) o (Ok (with_names (output_names ds) rs))) (left ∙ found false h)
 
   pub goes_on : find is_unbounded (with_names (output_names ds) rs) ≡ find is_unbounded (drop i (with_names (output_names ds) rs)) → is_bounded (get_or rs i r) ≡ true → find is_unbounded (with_names (output_names ds) rs) ≡ find is_unbounded (drop (i + 1) (with_names (output_names ds) rs))
   goes_on left h = left ∙ found true h
@@ -67,7 +67,7 @@ pub all_bounded : (ds : List Declared) (rs : List Interval) (n : ℕ) (done : Li
 all_bounded ds rs n done e l is left =
     let whole = length-with_names ds rs e in
     let past : length (with_names (output_names ds) rs) ≤ n = omega (arith, whole, l) in
-    ap (λ o. option_map_or (λ (o : NamedRange). Err (output_fails o.name)) o (Ok (with_names (output_names ds) rs))) (left ∙ ap (find is_unbounded) (drop_all n (with_names (output_names ds) rs) past))
+    ap (λ o. option_map_or (λ (o : NamedRange). Err (output_fails o.name o.range)) o (Ok (with_names (output_names ds) rs))) (left ∙ ap (find is_unbounded) (drop_all n (with_names (output_names ds) rs) past))
     ∙ ap Ok (sym (is ∙ take_all n (with_names (output_names ds) rs) past))
 
 -- ---- the outputs stand after the inputs

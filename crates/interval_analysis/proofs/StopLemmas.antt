@@ -18,24 +18,28 @@ use Rattle.interval_analysis.specs.declared.stop.WalkStop.{WalkStop}
 use Rattle.interval_analysis.specs.declared.stop.WalkStop.TheVariants as walks
 use Rattle.interval_analysis.specs.declared.value_range.ValueRange.{ValueRange}
 use Rattle.interval_analysis.specs.private.ExpressionViews.{StopsAs}
-use Rattle.interval_analysis.specs.private.StopViews.{FaultOf, IsFaultOf, RefusesAt, StopsAt, StopsWith, WithMemory, IsBehindLists, range_fault}
+use Rattle.interval_analysis.specs.private.StopViews.{FaultOf, IsFaultOf, RefusesAt, StopsAt, StopsWith, WithMemory, IsBehindLists, range_fault, range_operands}
 
 -- ---- a fault as callers see it
 
 module _ (f : Flowchart) (limits : Limits) where
   pub fault_told : (fault : RangeFault) (ranges : List ValueRange) → IsFaultOf (analysed f limits) fault ranges → IsWalkFaultOrMemory f limits fault
   fault_told (faults.At p cause) ranges h = (h.0, h.1)
-  fault_told (faults.Output x) ranges h = h.0
+  fault_told (faults.Output x) ranges h = (h.0, h.1)
   fault_told (faults.Memory e) ranges h = tt
 
   pub operands_told : (fault : RangeFault) (ranges : List ValueRange) → IsFaultOf (analysed f limits) fault ranges → AreFailingOperands f limits fault ranges
   operands_told (faults.At p cause) ranges h = h
-  operands_told (faults.Output x) ranges h = h.1
+  operands_told (faults.Output x) ranges h = h
   operands_told (faults.Memory e) ranges h = absurd h
 
   pub stop_told : (stop : WalkStop) → FaultOf (analysed f limits) stop → IsWalkFaultOrMemory f limits (range_fault stop)
   stop_told (walks.Refused refusal) h = fault_told refusal.value.fault refusal.value.operands.items h
   stop_told walks.Memory h = tt
+
+  pub stop_operands : (stop : WalkStop) → FaultOf (analysed f limits) stop → AreFailingOperands f limits (range_fault stop) (range_operands stop)
+  stop_operands (walks.Refused refusal) h = operands_told refusal.value.fault refusal.value.operands.items h
+  stop_operands walks.Memory h = refl
 
 -- what holds of each fault holds unless memory ran out
 pub unless_memory : (fault : RangeFault) (P : Type 0) → P → UnlessMemory fault P
@@ -50,7 +54,7 @@ of_memory fault P is = subst (λ f. UnlessMemory f P) (sym is) tt
 
 fault_on : (r q : Result Ranges WalkFault) (fault : RangeFault) (ranges : List ValueRange) → ((e : WalkFault) → r ≡ Err e → q ≡ Err e) → IsFaultOf r fault ranges → IsFaultOf q fault ranges
 fault_on r q (faults.At p cause) ranges on h = (h.0, on (node_fails p cause h.0) h.1, h.2)
-fault_on r q (faults.Output x) ranges on h = (on (output_fails x) h.0, h.1)
+fault_on r q (faults.Output x) ranges on h = (h.0, on (output_fails x h.0) h.1, h.2)
 fault_on r q (faults.Memory e) ranges on h = absurd h
 
 pub fault_through : (r q : Result Ranges WalkFault) (stop : WalkStop) → ((e : WalkFault) → r ≡ Err e → q ≡ Err e) → FaultOf r stop → FaultOf q stop
@@ -60,7 +64,7 @@ fault_through r q walks.Memory on h = tt
 -- what is refused doesn't pass
 pub fault_passes_not : (r : Result Ranges WalkFault) (fault : RangeFault) (ranges : List ValueRange) (a : Ranges) → IsFaultOf r fault ranges → r ≡ Ok a → ⊥
 fault_passes_not r (faults.At p cause) ranges a h is = (let e : Err (node_fails p cause h.0) ≡ Ok a = sym h.1 ∙ is in absurd cc)
-fault_passes_not r (faults.Output x) ranges a h is = (let e : Err (output_fails x) ≡ Ok a = sym h.0 ∙ is in absurd cc)
+fault_passes_not r (faults.Output x) ranges a h is = (let e : Err (output_fails x h.0) ≡ Ok a = sym h.1 ∙ is in absurd cc)
 fault_passes_not r (faults.Memory e) ranges a h is = absurd h
 
 -- an answer that is refused doesn't pass

@@ -1,5 +1,5 @@
 -- What the analysis answers.
-use Rattle.std.specs.Prelude.{◌≡◌, List, [], map, Err, ⊤}
+use Rattle.std.specs.Prelude.{◌≡◌, List, [], ◌∷◌, map, Err, ⊤}
 use Rattle.pap_tree.specs.Flowchart.{Flowchart}
 use Rattle.limits_file.specs.declared.limits.Limits.{Limits}
 use Rattle.interval_num.specs.Intervals.{Interval}
@@ -20,7 +20,7 @@ named_range o = record { name = o.name; range = o.range }
 abbrev pub IsWalkFault : Flowchart → Limits → RangeFault → Type 0
 IsWalkFault f limits (faults.At place cause) =
     (operands : List Interval) × (analysed f limits ≡ Err (node_fails place cause operands))
-IsWalkFault f limits (faults.Output name) = analysed f limits ≡ Err (output_fails name)
+IsWalkFault f limits (faults.Output name) = (range : Interval) × (analysed f limits ≡ Err (output_fails name range))
 IsWalkFault f limits (faults.Memory e) = ⊥
 
 -- why the analysis refuses a plan: the walk fails there, or memory ran out, which may be at any plan
@@ -28,12 +28,14 @@ abbrev pub IsWalkFaultOrMemory : Flowchart → Limits → RangeFault → Type 0
 IsWalkFaultOrMemory f limits (faults.Memory e) = ⊤
 IsWalkFaultOrMemory f limits other = IsWalkFault f limits other
 
--- the ranges that the operands of the failing node have there, from the left; none where the fault has no node
+-- the ranges that the operands of the failing node have there, from the left, or that of the failing output at the end
 abbrev pub AreFailingOperands : Flowchart → Limits → RangeFault → List ValueRange → Type 0
 AreFailingOperands f limits (faults.At place cause) ranges =
     (operands : List Interval) × (analysed f limits ≡ Err (node_fails place cause operands))
     × (map value_range operands ≡ ranges)
-AreFailingOperands f limits other ranges = ranges ≡ []
+AreFailingOperands f limits (faults.Output name) ranges =
+    (range : Interval) × (analysed f limits ≡ Err (output_fails name range)) × (value_range range ∷ [] ≡ ranges)
+AreFailingOperands f limits (faults.Memory e) ranges = ranges ≡ []
 
 -- what holds of a fault, unless it is that memory ran out
 abbrev pub UnlessMemory : RangeFault → Type 0 → Type 0

@@ -20,12 +20,12 @@ use crate::expressions::Walk;
 use crate::outputs::output_ranges;
 use crate::start::start_ranges;
 use crate::statements::Spot;
-use crate::stop::{Refusal, WalkStop};
+use crate::stop::WalkStop;
 use crate::tables::TabledPlan;
 use crate::variables::Variables;
 use crate::visits::Visits;
 use crate::weights::weights_of;
-use crate::{OutputRange, RangeFault, RefusedSurvey, Survey, Verdict};
+use crate::{OutputRange, RangeFault, RefusedRanges, RefusedSurvey, Survey, Verdict};
 use limits_file::Limits;
 use pap_tree::Name;
 use pap_types::{LONGEST_CHAIN, Typed};
@@ -61,11 +61,38 @@ pub fn analyse(
         → RunHolds (flowchart_of t.now) (map named_range v.outputs.items) inputs
         × (cost_of (flowchart_of t.now) inputs ≤ v.bound)) }
 {
+    match analyse_told(alloc, t, order, limits) {
+        Ok(verdict) => Ok(verdict),
+        Err(refused) => Err(refused.fault),
+    }
+}
+
+/// Analyses a plan as [`analyse`] does, with the same answers. Refused as by it, with the ranges that the walk has where it stops: of the
+/// failing node's operands, or of the output.
+pub fn analyse_told(
+    alloc: Global,
+    t: &Typed,
+    order: &[u32],
+    limits: &Limits,
+) -> Result<Verdict, RefusedRanges>
+    requires ordered { IsOrdered (flowchart_of t.now) order.now }
+    requires limits { HaveLimits (flowchart_of t.now) limits.now }
+    ensures ranges { IfOk result
+        (λ v. analysed (flowchart_of t.now) limits.now ≡ Ok (map named_range v.outputs.items)) }
+    ensures bound { IfOk result (λ v. v.bound ≡ bound_of (flowchart_of t.now)) }
+    ensures fault { IfErr result (λ r. IsWalkFaultOrMemory (flowchart_of t.now) limits.now r.fault) }
+    ensures operands { IfErr result
+        (λ r. AreFailingOperands (flowchart_of t.now) limits.now r.fault r.operands.items) }
+    ensures sound { IfOk result (λ v. (inputs : List Decimal)
+        → AreAdmitted (flowchart_of t.now) limits.now inputs
+        → RunHolds (flowchart_of t.now) (map named_range v.outputs.items) inputs
+        × (cost_of (flowchart_of t.now) inputs ≤ v.bound)) }
+{
     // For the proof: the plan is well typed, and its nodes and statements are counted.
     let _well_typed = t.plan();
     match judged(alloc, t, order, limits, &mut Visits::unasked()) {
         Ok(verdict) => Ok(verdict),
-        Err(stop) => Err(stop.fault()),
+        Err(stop) => Err(stop.refused(alloc)),
     }
 }
 
@@ -160,13 +187,13 @@ fn survey_of(verdict: Verdict, visits: Visits) -> Survey
 }
 
 /// A refusal with what is known where a walk stopped of which it was kept.
-fn refused_survey(refusal: Refusal, visits: Visits) -> RefusedSurvey
+fn refused_survey(refusal: RefusedRanges, visits: Visits) -> RefusedSurvey
     requires { IsSome visits.known }
     ensures fault { result.fault ≡ refusal.fault }
     ensures operands { result.operands ≡ refusal.operands }
     ensures known { visits.known ≡ Some (refused_known result) }
 {
-    let Refusal { fault, operands } = refusal;
+    let RefusedRanges { fault, operands } = refusal;
     match visits.known {
         Some(known) => RefusedSurvey {
             fault,

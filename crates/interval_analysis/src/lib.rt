@@ -31,7 +31,7 @@ mod verdict;
 mod visits;
 mod weights;
 
-pub use analysis::{analyse, survey};
+pub use analysis::{analyse, analyse_told, survey};
 pub use fault::RangeFault;
 pub use value_range::ValueRange;
-pub use verdict::{OutputRange, RefusedSurvey, Survey, Verdict};
+pub use verdict::{OutputRange, RefusedRanges, RefusedSurvey, Survey, Verdict};

@@ -49,7 +49,7 @@ fn bounded(
         let name = outputs[i].name;
         let range = ranges[i];
         if !is_bounded(range) {
-            return Err(WalkStop::of_output(alloc, name));
+            return Err(WalkStop::of_output(alloc, name, range));
         }
         match bounded.push(OutputRange { name, range }) {
             Ok(()) => {}

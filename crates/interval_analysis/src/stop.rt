@@ -2,29 +2,21 @@
 ghost use Rattle.std.specs.Prelude.{◌≡◌, IfOk, Err};
 ghost use Rattle.interval_walk.specs.Failures.{output_fails};
 ghost use Rattle.interval_analysis.specs.declared.stop.WalkStop.TheVariants.{Refused};
-ghost use Rattle.interval_analysis.specs.private.StopViews.{FaultOf, RefusesAt, range_fault, refused_node};
+ghost use Rattle.interval_analysis.specs.private.StopViews.{FaultOf, RefusesAt, range_fault, range_operands, refused_node};
 
-use crate::RangeFault;
 use crate::expressions::Stop;
 use crate::statements::Spot;
 use crate::value_range::ValueRange;
+use crate::{RangeFault, RefusedRanges};
 use interval_num::{Abs, RangeCause};
 use pap_tree::{Name, Place};
 use std::alloc::{AllocError, Global};
-
-/// Why a plan has no ranges.
-#[derive(Drop)]
-pub(crate) struct Refusal {
-    pub fault: RangeFault,
-    /// Those of the failing node's operands, from the left.
-    pub operands: Vec<ValueRange>,
-}
 
 /// Why the walk of a plan stops. What is told of it is in a box, since each level of the walk has room for its stop.
 #[derive(Drop)]
 pub(crate) enum WalkStop {
     /// A node may fail, or an output may be beyond its bound.
-    Refused(Box<Refusal>),
+    Refused(Box<RefusedRanges>),
     /// Memory ran out.
     Memory,
 }
@@ -42,26 +34,23 @@ impl WalkStop {
     }
 
     /// That an output may be beyond its bound; or memory ran out for what is told of it.
-    pub fn of_output(alloc: Global, name: Name) -> WalkStop
-        ensures { FaultOf (Err (output_fails name)) result }
+    pub fn of_output(alloc: Global, name: Name, range: Abs) -> WalkStop
+        ensures { FaultOf (Err (output_fails name range)) result }
     {
-        let refusal = Refusal {
-            fault: RangeFault::Output { name },
-            operands: Vec::new(alloc),
-        };
-        match Box::new(alloc, refusal) {
+        match output_refusal(alloc, name, range) {
             Ok(refusal) => WalkStop::Refused(refusal),
             Err(_) => WalkStop::Memory,
         }
     }
 
     /// The stop as callers see it.
-    pub fn fault(self) -> RangeFault
-        ensures { result ≡ range_fault self }
+    pub fn refused(self, alloc: Global) -> RefusedRanges
+        ensures fault { result.fault ≡ range_fault self }
+        ensures operands { result.operands.items ≡ range_operands self }
     {
         match self {
-            WalkStop::Refused(refusal) => Box::into_inner(refusal).fault,
-            WalkStop::Memory => RangeFault::Memory(AllocError),
+            WalkStop::Refused(refusal) => Box::into_inner(refusal),
+            WalkStop::Memory => RefusedRanges::without_memory(alloc),
         }
     }
 }
@@ -77,7 +66,7 @@ impl From<AllocError> for WalkStop {
 }
 
 /// The refusal of a node, with the ranges of its operands. Want of memory has none.
-fn refusal_at(alloc: Global, stop: Stop, spot: Spot) -> Result<Box<Refusal>, AllocError>
+fn refusal_at(alloc: Global, stop: Stop, spot: Spot) -> Result<Box<RefusedRanges>, AllocError>
     ensures { IfOk result (λ refusal. RefusesAt stop spot (Refused refusal)) }
 {
     let refusal = match stop {
@@ -104,8 +93,24 @@ fn refusal_at(alloc: Global, stop: Stop, spot: Spot) -> Result<Box<Refusal>, All
     Ok(Box::new(alloc, refusal)?)
 }
 
+/// The refusal of an output, with its range.
+fn output_refusal(alloc: Global, name: Name, range: Abs) -> Result<Box<RefusedRanges>, AllocError>
+    ensures { IfOk result (λ refusal. FaultOf (Err (output_fails name range)) (Refused refusal)) }
+{
+    let refusal = RefusedRanges {
+        fault: RangeFault::Output { name },
+        operands: vec![in alloc; ValueRange::of(range)]?,
+    };
+    Ok(Box::new(alloc, refusal)?)
+}
+
 /// The refusal of a node of a statement's expression.
-fn refused_node(spot: Spot, node: u32, cause: RangeCause, operands: Vec<ValueRange>) -> Refusal
+fn refused_node(
+    spot: Spot,
+    node: u32,
+    cause: RangeCause,
+    operands: Vec<ValueRange>,
+) -> RefusedRanges
     ensures { result ≡ refused_node spot node cause operands }
 {
     let Spot { method, at, .. } = spot;
@@ -114,7 +119,7 @@ fn refused_node(spot: Spot, node: u32, cause: RangeCause, operands: Vec<ValueRan
         stmt: at,
         node,
     };
-    Refusal {
+    RefusedRanges {
         fault: RangeFault::At { place, cause },
         operands,
     }

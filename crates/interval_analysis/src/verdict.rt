@@ -27,6 +27,30 @@ pub struct Verdict {
     pub outputs: Vec<OutputRange>,
 }
 
+/// Why a plan has no verdict, with the ranges that its walk has where it stops.
+#[derive(Drop)]
+pub struct RefusedRanges {
+    /// Why its ranges are refused.
+    pub fault: RangeFault,
+    /// Of a fault at a node the ranges of the values that its operands have there, from the left: one of an item's index or of the
+    /// only operand, two of both operands, of the sides of a comparison or of the parts of a conditional. Empty where a leaf fails
+    /// or two branches of an IF don't meet, and where memory runs out. Of an output beyond its bound the range that it has at the end.
+    pub operands: Vec<ValueRange>,
+}
+
+impl RefusedRanges {
+    /// That memory ran out; nothing is known.
+    pub(crate) fn without_memory(alloc: Global) -> RefusedRanges
+        ensures fault { result.fault ≡ Memory alloc_error }
+        ensures operands { result.operands.items ≡ [] }
+    {
+        RefusedRanges {
+            fault: RangeFault::Memory(AllocError),
+            operands: Vec::new(alloc),
+        }
+    }
+}
+
 /// What is known of a plan whose walk passes.
 #[derive(Drop)]
 pub struct Survey {
@@ -46,9 +70,7 @@ pub struct Survey {
 pub struct RefusedSurvey {
     /// Why its ranges are refused; `Memory` also where memory runs out for what follows.
     pub fault: RangeFault,
-    /// Of a fault at a node the ranges of the values that its operands have there, from the left: one of an item's index or of the
-    /// only operand, two of both operands, of the sides of a comparison or of the parts of a conditional. Empty where a leaf fails
-    /// or two branches of an IF don't meet, and where the fault has no node.
+    /// The ranges that the walk has there, as in [`RefusedRanges`].
     pub operands: Vec<ValueRange>,
     /// The statements to which the walk comes, as in [`Survey`]. It comes to both lists of an IF that can be reached, also where the
     /// first one stops, and to nothing behind a statement that stops.

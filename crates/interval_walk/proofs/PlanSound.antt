@@ -89,7 +89,7 @@ record AllPass (rs ranges : Ranges) : Type 0 where
 all_pass : (rs ranges : Ranges) → unless_unbounded rs ≡ Ok ranges → AllPass rs ranges
 all_pass rs ranges e = by_found (find (λ o. not (is_bounded o.range)) rs) refl e
   where
-    by_found : (o : Option NamedRange) → find (λ o. not (is_bounded o.range)) rs ≡ o → option_map_or (λ o. Err (output_fails o.name)) o (Ok rs) ≡ Ok ranges → AllPass rs ranges
+    by_found : (o : Option NamedRange) → find (λ o. not (is_bounded o.range)) rs ≡ o → option_map_or (λ o. Err (output_fails o.name o.range)) o (Ok rs) ≡ Ok ranges → AllPass rs ranges
     by_found (Some r) f g = absurd (cc)
     by_found None f g = let same : rs ≡ ranges = cc in record { same = same; none = f }
 

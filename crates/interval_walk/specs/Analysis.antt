@@ -64,7 +64,7 @@ output_ranges f env = take (length f.outputs) (drop (length f.inputs) env)
 -- the ranges of the outputs, or the first of them that may be beyond its bound
 abbrev pub unless_unbounded : Ranges → Result Ranges WalkFault
 unless_unbounded outputs =
-    option_map_or (λ o. Err (output_fails o.name))
+    option_map_or (λ o. Err (output_fails o.name o.range))
     (find (λ o. not (is_bounded o.range)) outputs) (Ok outputs)
 
 -- ---- the whole

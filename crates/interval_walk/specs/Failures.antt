@@ -17,8 +17,8 @@ pub record NodeFault : Type 0 where
 pub data WalkFault : Type 0 where
   -- a node may fail, whose operands have these ranges there, from the left
   node_fails : Place → RangeCause → List Interval → WalkFault
-  -- an output may be beyond its bound
-  output_fails : List ℕ → WalkFault
+  -- an output may be beyond its bound, which has this range at the end
+  output_fails : List ℕ → Interval → WalkFault
 
 -- what comes after an answer; after a refusal, that refusal
 abbrev pub and_then : {A B E : Type 0} → Result A E → (A → Result B E) → Result B E

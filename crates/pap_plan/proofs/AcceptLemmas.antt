@@ -14,9 +14,9 @@ use Rattle.call_order.specs.Orders.{IsOrdered}
 use Rattle.interval_walk.specs.Admission.{HasLimit, HaveLimits}
 use Rattle.pap_plan.specs.declared.refusal.PlanRefusal.{PlanRefusal}
 use Rattle.pap_plan.specs.declared.refusal.PlanRefusal.TheVariants as refusals
-use Rattle.pap_plan.specs.Bindings.{HasSuitedLimit, AreMatched}
+use Rattle.pap_plan.specs.Bindings.{HasSuitedLimit, AreMatched, IsUnmatched}
 use Rattle.pap_plan.specs.Acceptance.{IsTypedPlan, IsOrderedPlan, HasBindings}
-use Rattle.pap_plan.specs.private.JudgedViews.{HasNoVerdict, IsMisjudged}
+use Rattle.pap_plan.specs.private.BoundViews.{IsMisjudged}
 use Rattle.pap_plan.proofs.LimitLemmas.{found_sound}
 
 -- what a `?` passes on
@@ -46,7 +46,7 @@ bindings_of plan limits f order l h k file m = record {
   bound = m.bound;
 }
 
-pub misjudged : (limits : List ℕ) (f : Flowchart) (order : List ℕ) (l : Limits) (r : PlanRefusal) → IsOrdered f order → FileSays limits (Ok l) → HasNoVerdict f l r → IsMisjudged limits f r
+pub misjudged : (limits : List ℕ) (f : Flowchart) (order : List ℕ) (l : Limits) (r : PlanRefusal) → IsOrdered f order → FileSays limits (Ok l) → IsUnmatched f l r → IsMisjudged limits f r
 misjudged limits f order l (refusals.Read e) k file h = absurd h
 misjudged limits f order l (refusals.Expr spot e) k file h = absurd h
 misjudged limits f order l (refusals.Types e) k file h = absurd h
@@ -57,5 +57,5 @@ misjudged limits f order l (refusals.LimitKind name) k file h =
     λ plan typed. (f, (l, record { file = record { ordered = ordered_plan plan f order typed k; file = file }; matching = h.0 }, h.1))
 misjudged limits f order l (refusals.Bind name) k file h =
     λ plan typed. (f, (l, record { named = record { file = record { ordered = ordered_plan plan f order typed k; file = file }; matching = h.0 }; suited = h.1 }, h.2))
-misjudged limits f order l (refusals.Range e) k file h = λ plan typed. (f, (l, bindings_of plan limits f order l typed k file h.0, h.1))
-misjudged limits f order l refusals.Memory k file h = λ plan typed. tt
+misjudged limits f order l (refusals.Range e) k file h = absurd h
+misjudged limits f order l refusals.Memory k file h = absurd h

@@ -86,7 +86,7 @@ part_named ds es fs rs e =
 bounded_same : (rs ranges : Ranges) → unless_unbounded rs ≡ Ok ranges → rs ≡ ranges
 bounded_same rs ranges e = by_found (find (λ o. not (is_bounded o.range)) rs) e
   where
-    by_found : (o : Option NamedRange) → option_map_or (λ o. Err (output_fails o.name)) o (Ok rs) ≡ Ok ranges → rs ≡ ranges
+    by_found : (o : Option NamedRange) → option_map_or (λ o. Err (output_fails o.name o.range)) o (Ok rs) ≡ Ok ranges → rs ≡ ranges
     by_found (Some r) g = absurd (cc)
     by_found None g = cc
 

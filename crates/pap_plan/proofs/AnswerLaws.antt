@@ -186,16 +186,16 @@ one_limits_fault limits e d h k =
 -- a refusal of the walk, by the walk's own words
 abbrev range_of : WalkFault → RangeFault
 range_of (node_fails place cause operands) = walks.At place cause
-range_of (output_fails name) = walks.Output name
+range_of (output_fails name range) = walks.Output name
 
 walk_fault : (f : Flowchart) (l : Limits) (r : RangeFault) → IsWalkFault f l r → (w : WalkFault) × (analysed f l ≡ Err w) × (range_of w ≡ r)
 walk_fault f l (walks.At place cause) h = (node_fails place cause h.0, h.1, refl)
-walk_fault f l (walks.Output name) h = (output_fails name, h, refl)
+walk_fault f l (walks.Output name) h = (output_fails name h.0, h.1, refl)
 walk_fault f l (walks.Memory e) h = absurd h
 
 is_walk_fault : (f : Flowchart) (l : Limits) (w : WalkFault) → analysed f l ≡ Err w → IsWalkFault f l (range_of w)
 is_walk_fault f l (node_fails place cause operands) h = (operands, h)
-is_walk_fault f l (output_fails name) h = h
+is_walk_fault f l (output_fails name range) h = (range, h)
 
 ranges_same : (x y : Ranges) → ok_walk x ≡ ok_walk y → x ≡ y
 ranges_same x y e = cc

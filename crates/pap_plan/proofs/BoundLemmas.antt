@@ -1,5 +1,5 @@
 -- Refusals before the ranges of a plan's values are judged.
-use Rattle.std.proofs.Common.{◌≡◌, ℕ, List}
+use Rattle.std.proofs.Common.{ℕ, List}
 use Rattle.pap_tree.specs.Flowchart.{Flowchart}
 use Rattle.limits_file.specs.declared.limits.Limits.{Limits}
 use Rattle.limits_file.specs.declared.fault.LimitsFault.{LimitsFault}
@@ -12,7 +12,6 @@ use Rattle.pap_plan.specs.BoundPlans.{IsBeforeRanges, IsUnboundOrMemory}
 use Rattle.pap_plan.specs.StageRefusals.{order_refusal, limits_refusal}
 use Rattle.pap_plan.specs.Bindings.{IsUnmatched}
 use Rattle.pap_plan.specs.private.AcceptanceClauses.{IsUntyped}
-use Rattle.pap_plan.specs.private.JudgedViews.{HasNoVerdict}
 
 pub order_early : (e : OrderFault) → IsBeforeRanges (order_refusal e)
 order_early (orders.Cycle method) = tt
@@ -50,15 +49,3 @@ unmatched_early f l (refusals.LimitName name) h = tt
 unmatched_early f l (refusals.LimitKind name) h = tt
 unmatched_early f l (refusals.Bind name) h = tt
 unmatched_early f l refusals.Memory h = tt
-
-pub no_verdict : (f : Flowchart) (l : Limits) (r : PlanRefusal) → IsUnmatched f l r → HasNoVerdict f l r
-no_verdict f l (refusals.Range fault) h = absurd h
-no_verdict f l (refusals.Read fault) h = h
-no_verdict f l (refusals.Expr spot fault) h = h
-no_verdict f l (refusals.Types fault) h = h
-no_verdict f l (refusals.Order fault) h = h
-no_verdict f l (refusals.Limits fault) h = h
-no_verdict f l (refusals.LimitName name) h = h
-no_verdict f l (refusals.LimitKind name) h = h
-no_verdict f l (refusals.Bind name) h = h
-no_verdict f l refusals.Memory h = tt

@@ -5,6 +5,7 @@ mod BindingLemmas
 mod BoundLemmas
 mod CountLemmas
 mod HeldLemmas
+mod JudgementLemmas
 pub mod Laws
 mod LimitFaultLemmas
 mod LimitLemmas

@@ -4,6 +4,7 @@ pub mod AcceptanceLaws
 pub mod Bindings
 pub mod BoundPlans
 pub mod Inputs
+pub mod Judgements
 pub mod LimitFaults
 pub mod Plans
 pub mod StageRefusals

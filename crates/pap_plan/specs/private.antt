@@ -1,4 +1,3 @@
 pub mod AcceptanceClauses
 pub mod BindingViews
 pub mod BoundViews
-pub mod JudgedViews

@@ -2,8 +2,7 @@
 ghost use Rattle.std.specs.Prelude.{IfOk, IfErr};
 ghost use Rattle.pap_tree.specs.Flowchart.{flowchart_of};
 ghost use Rattle.pap_plan.specs.BoundPlans.{IsBoundPlan, IsBeforeRanges, IsUnboundOrMemory};
-ghost use Rattle.pap_plan.specs.private.BoundViews.{HasBoundLimits};
-ghost use Rattle.pap_plan.specs.private.JudgedViews.{IsMisjudged};
+ghost use Rattle.pap_plan.specs.private.BoundViews.{HasBoundLimits, IsMisjudged};
 
 use crate::PlanRefusal;
 use crate::acceptance::{match_limits, read_typed};

@@ -12,10 +12,10 @@ use Rattle.interval_analysis.specs.declared.expressions.Stop.TheVariants as stop
 use Rattle.interval_analysis.specs.declared.fault.RangeFault.{RangeFault}
 use Rattle.interval_analysis.specs.declared.fault.RangeFault.TheVariants as faults
 use Rattle.interval_analysis.specs.declared.statements.Spot.{Spot}
-use Rattle.interval_analysis.specs.declared.stop.Refusal.{Refusal}
 use Rattle.interval_analysis.specs.declared.stop.WalkStop.{WalkStop}
 use Rattle.interval_analysis.specs.declared.stop.WalkStop.TheVariants as walks
 use Rattle.interval_analysis.specs.declared.value_range.ValueRange.{ValueRange}
+use Rattle.interval_analysis.specs.declared.verdict.RefusedRanges.{RefusedRanges}
 
 -- the ranges of these that are there
 abbrev pub range_list : Option Interval → Option Interval → List Interval
@@ -26,11 +26,11 @@ range_list (Some a) (Some b) = a ∷ b ∷ []
 
 -- ---- what is told of the definition's answer; memory is free
 
--- the definition's answer is this fault, whose operands have these ranges
+-- the definition's answer is this fault, with these ranges of its operands or of its output
 abbrev pub IsFaultOf : Result Ranges WalkFault → RangeFault → List ValueRange → Type 0
 IsFaultOf r (faults.At p cause) ranges =
     (operands : List Interval) × (r ≡ Err (node_fails p cause operands)) × (map value_range operands ≡ ranges)
-IsFaultOf r (faults.Output x) ranges = (r ≡ Err (output_fails x)) × (ranges ≡ [])
+IsFaultOf r (faults.Output x) ranges = (a : Interval) × (r ≡ Err (output_fails x a)) × (value_range a ∷ [] ≡ ranges)
 IsFaultOf r (faults.Memory e) ranges = ⊥
 
 -- the definition's answer is this stop, or memory ran out
@@ -50,13 +50,18 @@ abbrev pub RefusesAt : Stop → Spot → WalkStop → Type 0
 RefusesAt stop spot s = (r : Result Ranges WalkFault) → StopsAt r stop spot → FaultOf r s
 
 -- the refusal of a node of a statement's expression
-abbrev pub refused_node : Spot → ℕ → RangeCause → Vec ValueRange Global → Refusal
+abbrev pub refused_node : Spot → ℕ → RangeCause → Vec ValueRange Global → RefusedRanges
 refused_node spot n cause operands = record { fault = faults.At (place spot.method spot.at n) cause; operands = operands }
 
 -- a stop as callers see it
 abbrev pub range_fault : WalkStop → RangeFault
 range_fault (walks.Refused refusal) = refusal.value.fault
 range_fault walks.Memory = faults.Memory alloc_error
+
+-- the ranges that the walk has there
+abbrev pub range_operands : WalkStop → List ValueRange
+range_operands (walks.Refused refusal) = refusal.value.operands.items
+range_operands walks.Memory = []
 
 -- ---- where memory doesn't run out
 

@@ -2,10 +2,10 @@ use Rattle.std.proofs.Common.{subst}
 use Rattle.pap_tree.specs.Flowchart.{flowchart_of}
 use Rattle.pap_plan.specs.BoundPlans.{IsBeforeRanges}
 use Rattle.pap_plan.specs.StageRefusals.{order_refusal, limits_refusal}
-use Rattle.pap_plan.specs.Bindings.{AreMatched, IsUnmatched}
-use Rattle.pap_plan.specs.private.JudgedViews.{IsMisjudged}
+use Rattle.pap_plan.specs.Bindings.{IsUnmatched}
+use Rattle.pap_plan.specs.private.BoundViews.{IsMisjudged}
 use Rattle.pap_plan.proofs.AcceptLemmas.{passed, misjudged}
-use Rattle.pap_plan.proofs.BoundLemmas.{order_early, limits_early, unmatched_early, no_verdict}
+use Rattle.pap_plan.proofs.BoundLemmas.{order_early, limits_early, unmatched_early}
 use Rattle.pap_plan.proofs.bound.bound_limits.Goals as goal
 
 pub returns-in_err-order-clause-early : goal.returns-in_err-order-clause-early
@@ -31,7 +31,6 @@ returns-in_err-match_limits-clause-refused c =
     passed (IsMisjudged c.args.limits.now f) c.from_residual-in_err-match_limits.result c.in_err-match_limits.field-0.0
     (misjudged c.args.limits.now f c.in_ok-order.order.items c.in_ok-ranges.ranges c.in_err-match_limits.field-0.0
     c.in_ok-order.ensures c.in_ok-ranges.ensures.limits
-    (no_verdict f c.in_ok-ranges.ranges c.in_err-match_limits.field-0.0
     (subst (λ p. IsUnmatched (flowchart_of p) c.in_ok-ranges.ranges c.in_err-match_limits.field-0.0) c.plan.ensures.text
-    c.in_err-match_limits.ensures.refused)))
+    c.in_err-match_limits.ensures.refused))
     c.from_residual-in_err-match_limits.ensures.1
