@@ -2,6 +2,5 @@ mod FaultLaws
 mod FindLemmas
 mod FurtherLemmas
 mod LineLemmas
-mod OperandLemmas
 mod ReasonLemmas
 pub mod Laws

@@ -1,17 +1,17 @@
--- What the walk over the ranges of values knows of the operands of a node that may fail, in words.
-use Rattle.std.specs.Prelude.{◌≡◌, ℕ, List, [], ◌∷◌, ◌++◌, codes, if◌then◌else◌}
+-- What the walk over the ranges of values knows of the operands of a node that may fail, or of an output that may be beyond its bound, in
+-- words.
+use Rattle.std.specs.Prelude.{◌≡◌, ℕ, List, [], ◌∷◌, ◌++◌, codes, if◌then◌else◌, nat_lt}
+use Rattle.std.specs.Fmt.{decimal}
 use Rattle.std.specs.Ordering.{is_eq}
 use Rattle.scaled_decimal.specs.Decimals.{value_order}
 use Rattle.scaled_decimal.specs.PlainTexts.{plain_text}
-use Rattle.pap_tree.specs.Flowchart.{Flowchart}
-use Rattle.limits_file.specs.declared.limits.Limits.{Limits}
+use Rattle.limits_file.specs.Limits.{output_places}
 use Rattle.interval_num.specs.declared.cause.RangeCause.{RangeCause}
 use Rattle.interval_num.specs.declared.cause.RangeCause.TheVariants.{Divisor, Index}
-use Rattle.interval_analysis.specs.Answers.{AreFailingOperands}
 use Rattle.interval_analysis.specs.declared.fault.RangeFault.{RangeFault}
 use Rattle.interval_analysis.specs.declared.fault.RangeFault.TheVariants as faults
 use Rattle.interval_analysis.specs.declared.value_range.ValueRange.{ValueRange}
-use Rattle.pap_plan.specs.Acceptance.{HasBindings}
+use Rattle.pap_plan.specs.Judgements.{AreOperandsOf}
 use Rattle.pap_plan.specs.declared.refusal.PlanRefusal.{PlanRefusal}
 use Rattle.pap_plan.specs.declared.refusal.PlanRefusal.TheVariants as refusals
 
@@ -46,16 +46,30 @@ operands_line cause (a ∷ []) = there_line (one_words cause a)
 operands_line cause (a ∷ (b ∷ [])) = there_line (two_words cause a b)
 operands_line cause _ = []
 
--- the ranges that the walk of these two texts' plan has of the operands where it fails so, from the left
-pub record AreRefusedOperands (plan limits : List ℕ) (fault : RangeFault) (operands : List ValueRange) : Type 0 where
-  pub flowchart : Flowchart
-  pub ranges : Limits
-  pub bound : HasBindings plan limits flowchart ranges
-  pub are : AreFailingOperands flowchart ranges fault operands
+-- what is wrong with the range of an output: it has too many digits after its point, or else it is too great
+abbrev pub beyond_words : ValueRange → List ℕ
+beyond_words r =
+    if nat_lt output_places r.most_places
+    then codes "has up to " ++ (decimal r.most_places ++ codes " digits after its point, and an output has at most 12")
+    else operand_words r ++ codes ", and an output lies from -10^20 to 10^20"
 
--- the text is the line of the operands where these two texts are refused so at a node that may fail, and else nothing
+-- the line of the range that an output has behind MAIN
+abbrev pub beyond_line : List ℕ → ValueRange → List ℕ
+beyond_line name r =
+    codes "papcalc: at the end the output " ++ (name ++ (codes " " ++ (beyond_words r ++ 10 ∷ [])))
+
+-- the line of the ranges that the walk has where it fails so: of the operands of a node, or of an output
+abbrev pub ranges_line : RangeFault → List ValueRange → List ℕ
+ranges_line (faults.At place cause) operands = operands_line cause operands
+ranges_line (faults.Output name) (r ∷ []) = beyond_line name r
+ranges_line _ _ = []
+
+-- the line of the ranges that belong to a refusal: of those of the walk, and at another stage none
+abbrev pub walk_line : PlanRefusal → List ValueRange → List ℕ
+walk_line (refusals.Range fault) operands = ranges_line fault operands
+walk_line _ operands = []
+
+-- the text is the line of the ranges that belong to this refusal of these two texts
 abbrev pub TellsOperands : List ℕ → List ℕ → PlanRefusal → List ℕ → Type 0
-TellsOperands plan limits (refusals.Range (faults.At place cause)) text =
-    (operands : List ValueRange) × AreRefusedOperands plan limits (faults.At place cause) operands
-    × (text ≡ operands_line cause operands)
-TellsOperands plan limits refusal text = text ≡ []
+TellsOperands plan limits refusal text =
+    (operands : List ValueRange) × AreOperandsOf plan limits refusal operands × (text ≡ walk_line refusal operands)

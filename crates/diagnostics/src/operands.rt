@@ -1,16 +1,17 @@
-//! What the walk over the ranges of values knows of the operands of a node that may fail.
+//! What the walk over the ranges of values knows of the operands of a node that may fail, or of an output that may be beyond its bound.
 ghost use Rattle.std.specs.Prelude.{◌≡◌, IfOk};
 ghost use Rattle.std.specs.String.{string_bytes};
-ghost use Rattle.pap_plan.specs.Acceptance.{IsRefused};
-ghost use Rattle.pap_plan.specs.BoundPlans.{IsBoundPlan};
-ghost use Rattle.pap_plan.specs.declared.refusal.PlanRefusal.TheVariants.{Range};
-ghost use Rattle.diagnostics.specs.Operands.{AreRefusedOperands, TellsOperands, one_words, operands_line, there_line, two_words};
+ghost use Rattle.diagnostics.specs.Operands.{one_words, operands_line, beyond_line, ranges_line, there_line, walk_line, two_words};
 
-use interval_analysis::{RangeFault, ValueRange, survey};
+use interval_analysis::{RangeFault, ValueRange};
 use interval_num::RangeCause;
-use pap_plan::{BoundPlan, PlanRefusal, read_bound};
+use pap_plan::{PlanRefusal, RefusedPlan};
+use pap_tree::Name;
 use std::alloc::{AllocError, Global};
 use std::fmt;
+
+/// The most digits of an output after its point.
+const OUTPUT_PLACES: u8 = 12;
 
 /// A range in words: its only value, or its ends.
 #[derive(Clone, Copy)]
@@ -57,82 +58,68 @@ impl fmt::Display for BothWords {
     }
 }
 
-/// The line of the ranges that the operands have at the node for which the two texts of a plan are refused; nothing where they are refused
-/// for something else. It walks the plan again. Fails only for lack of memory.
-pub(crate) fn operands_told(
-    alloc: Global,
-    plan: &[u8],
-    limits: &[u8],
-    refusal: &PlanRefusal,
-) -> Result<String, AllocError>
-    requires { IsRefused plan.now limits.now refusal.now }
-    ensures { IfOk result
-        (λ text. TellsOperands plan.now limits.now refusal.now (string_bytes text)) }
+/// What is wrong with the range of an output.
+#[derive(Clone, Copy)]
+struct BeyondWords {
+    range: ValueRange,
+}
+
+impl fmt::Display for BeyondWords {
+    ghost use Rattle.std.specs.Prelude.{Some};
+    ghost use Rattle.diagnostics.specs.Operands.{beyond_words};
+
+    ghost output = { λ words. Some (beyond_words words.range) };
+
+    /// `has up to 14 digits after its point, and an output has at most 12`, or within which range it lies.
+    fn fmt<W: fmt::Write>(&self, f: &mut fmt::Formatter<W>) -> fmt::Result {
+        let places = self.range.most_places;
+        if places > OUTPUT_PLACES {
+            write!(
+                f,
+                "has up to {places} digits after its point, and an output has at most 12"
+            )
+        } else {
+            let range = RangeWords { range: self.range };
+            write!(f, "{range}, and an output lies from -10^20 to 10^20")
+        }
+    }
+}
+
+/// The line of the ranges that belong to a refusal; nothing where there are none. Fails only for lack of memory.
+pub(crate) fn operands_told(alloc: Global, refused: &RefusedPlan) -> Result<String, AllocError>
+    ensures { IfOk result (λ text.
+        string_bytes text ≡ walk_line refused.now.refusal refused.now.operands.items) }
 {
-    match refusal {
-        PlanRefusal::Range(fault) => walk_told(alloc, plan, limits, fault),
+    match &refused.refusal {
+        PlanRefusal::Range(fault) => ranges_text(alloc, fault, &refused.operands),
         _ => Ok(String::new(alloc)),
     }
 }
 
-/// The same of a plan that its walk refuses so.
-fn walk_told(
+/// The line of the ranges that the walk has where it fails so.
+fn ranges_text(
     alloc: Global,
-    plan: &[u8],
-    limits: &[u8],
     fault: &RangeFault,
+    operands: &[ValueRange],
 ) -> Result<String, AllocError>
-    requires { IsRefused plan.now limits.now (Range fault.now) }
-    ensures { IfOk result
-        (λ text. TellsOperands plan.now limits.now (Range fault.now) (string_bytes text)) }
+    ensures { IfOk result (λ text. string_bytes text ≡ ranges_line fault.now operands.now) }
 {
     match fault {
-        RangeFault::At { cause, .. } => {
-            let operands = refused_operands(alloc, plan, limits, fault)?;
-            operands_text(alloc, *cause, &operands)
-        }
-        RangeFault::Output { .. } | RangeFault::Memory(_) => Ok(String::new(alloc)),
-    }
-}
-
-/// The ranges that the operands have where the walk of a plan fails so, from the left.
-fn refused_operands(
-    alloc: Global,
-    plan: &[u8],
-    limits: &[u8],
-    fault: &RangeFault,
-) -> Result<Vec<ValueRange>, AllocError>
-    requires { IsRefused plan.now limits.now (Range fault.now) }
-    ensures { IfOk result
-        (λ operands. AreRefusedOperands plan.now limits.now fault.now operands.items) }
-{
-    match read_bound(alloc, plan, limits) {
-        Ok(bound) => operands_within(alloc, plan, limits, fault, &bound),
-        Err(PlanRefusal::Memory) => Err(AllocError),
-        Err(_) => unreachable!(),
-    }
-}
-
-/// The same of a plan with its limits, which are of these texts.
-fn operands_within(
-    alloc: Global,
-    plan: &[u8],
-    limits: &[u8],
-    fault: &RangeFault,
-    bound: &BoundPlan,
-) -> Result<Vec<ValueRange>, AllocError>
-    requires refused { IsRefused plan.now limits.now (Range fault.now) }
-    requires bound { IsBoundPlan plan.now limits.now bound.now }
-    ensures { IfOk result
-        (λ operands. AreRefusedOperands plan.now limits.now fault.now operands.items) }
-{
-    match survey(alloc, &bound.typed, &bound.order, &bound.limits) {
-        Ok(_) => unreachable!(),
-        Err(refused) => match refused.fault {
-            RangeFault::Memory(failed) => Err(failed),
-            _ => Ok(refused.operands),
+        RangeFault::At { cause, .. } => operands_text(alloc, *cause, operands),
+        RangeFault::Output { name } => match operands {
+            [range] => output_text(alloc, *name, *range),
+            _ => Ok(String::new(alloc)),
         },
+        RangeFault::Memory(_) => Ok(String::new(alloc)),
     }
+}
+
+/// The line of the range that an output has behind MAIN.
+fn output_text(alloc: Global, name: Name, range: ValueRange) -> Result<String, AllocError>
+    ensures { IfOk result (λ text. string_bytes text ≡ beyond_line name range) }
+{
+    let words = BeyondWords { range };
+    format!(in alloc; "papcalc: at the end the output {name} {words}\n")
 }
 
 /// The line of the ranges that the operands of a node have; nothing where it has none.

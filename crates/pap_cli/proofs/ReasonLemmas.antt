@@ -1,5 +1,5 @@
 -- The reason of a refusal, and the notes that it is put to.
-use Rattle.std.proofs.Common.{◌≡◌, ◌≢◌, ◌∙◌, ℕ, ◌++◌, Bool, true, false, List, [], refl, sym, ap, subst, inl, inr, arith}
+use Rattle.std.proofs.Common.{◌≡◌, ◌≢◌, ◌∙◌, ℕ, ◌++◌, Bool, true, false, List, [], refl, ap, subst, inl, inr, arith}
 use Rattle.std.specs.Prelude.{Option, Some, None, IfSome, is_some, Result, Ok, Err, String, string_bytes}
 use Rattle.std.specs.declared.alloc.Global.{Global}
 use Rattle.std.proofs.lemmas.Bool.{false≢true}
@@ -11,8 +11,7 @@ use Rattle.carry_bindings.specs.declared.filling.Filled.TheVariants.{State}
 use Rattle.carry_bindings.specs.declared.filling.Blocked.{Blocked}
 use Rattle.carry_bindings.specs.declared.filling.Blocked.TheVariants as blocked
 use Rattle.pap_plan.specs.declared.refusal.PlanRefusal.{PlanRefusal}
-use Rattle.pap_plan.specs.declared.refusal.PlanRefusal.TheVariants as refusals
-use Rattle.pap_plan.specs.Acceptance.{IsRefused, IsRefusedOrMemory}
+use Rattle.pap_plan.specs.Acceptance.{IsRefused}
 use Rattle.pap_plan.specs.AcceptanceClauses.{IsAcceptedAs}
 use Rattle.pap_plan.specs.Plans.{Seen, meaning}
 use Rattle.pay_run.specs.Accepted.{Accepted, accepted}
@@ -69,32 +68,6 @@ some_is a e = cc
 pub if_some_none : {A : Type 0} (o : Option A) (P : A → Type 0) → o ≡ None → IfSome o P
 if_some_none None P e = tt
 if_some_none (Some a) P e = absurd (some_is a e)
-
--- a refusal that isn't want of memory
-pub refused_is : (plan limits : List ℕ) (r : PlanRefusal) → r ≢ refusals.Memory → IsRefusedOrMemory plan limits r → IsRefused plan limits r
-refused_is plan limits (refusals.Read fault) other h = h
-refused_is plan limits (refusals.Expr spot fault) other h = h
-refused_is plan limits (refusals.Types fault) other h = h
-refused_is plan limits (refusals.Order fault) other h = h
-refused_is plan limits (refusals.Limits fault) other h = h
-refused_is plan limits (refusals.LimitName name) other h = h
-refused_is plan limits (refusals.LimitKind name) other h = h
-refused_is plan limits (refusals.Bind name) other h = h
-refused_is plan limits (refusals.Range fault) other h = h
-refused_is plan limits refusals.Memory other h = absurd (other refl)
-
--- a refusal, where memory may have run out
-pub refused_or : (plan limits : List ℕ) (r : PlanRefusal) → IsRefused plan limits r → IsRefusedOrMemory plan limits r
-refused_or plan limits (refusals.Read fault) h = h
-refused_or plan limits (refusals.Expr spot fault) h = h
-refused_or plan limits (refusals.Types fault) h = h
-refused_or plan limits (refusals.Order fault) h = h
-refused_or plan limits (refusals.Limits fault) h = h
-refused_or plan limits (refusals.LimitName name) h = h
-refused_or plan limits (refusals.LimitKind name) h = h
-refused_or plan limits (refusals.Bind name) h = h
-refused_or plan limits (refusals.Range fault) h = h
-refused_or plan limits refusals.Memory h = absurd h
 
 -- what is told of a refused plan
 pub tells_plan : (c : Command) (files : PlanFiles) (refusal : PlanRefusal) → IsRefused files.plan.bytes files.ranges.bytes refusal

@@ -1,7 +1,7 @@
 //! The answer on two files.
 ghost use Rattle.std.specs.Prelude.{◌≡◌, ◌≢◌, ◌+◌, true, None, Ok, IfOk, IfSome, OnErr, is_some, string_bytes};
 ghost use Rattle.outside.specs.Causes.{Caused};
-ghost use Rattle.pap_plan.specs.Acceptance.{IsRefused};
+ghost use Rattle.pap_plan.specs.Judgements.{IsRefusedPlan};
 ghost use Rattle.plain_words.specs.Places.{files_of};
 ghost use Rattle.plan_answers.specs.Answers.{IsRefusal};
 ghost use Rattle.script_steps.specs.Shown.{shown};
@@ -19,7 +19,7 @@ use crate::reply::FileReply;
 use crate::words::{Command, FileRequest};
 use diagnostics::refusal_lines;
 use outside::{Files, Sink, put_all};
-use pap_plan::{PlanRefusal, accept};
+use pap_plan::{Judgement, RefusedPlan, judge_plan};
 use plain_words::TextFile;
 use plan_answers::{Reply, read_both, refused};
 use script_run::Stop;
@@ -44,13 +44,12 @@ fn reply_on_bytes<L: Ledger>(
         (answers_of command plan.entry.bytes.now limits.entry.bytes.now) steps.old steps.new) }
     ensures check { command ≡ Command.Check → steps.new ≡ steps.old }
 {
-    match accept(alloc, plan.bytes, limits.bytes) {
-        Ok(accepted) => match command {
+    match judge_plan(alloc, plan.bytes, limits.bytes)? {
+        Judgement::Accepted(accepted) => match command {
             Command::Check => check_reply(alloc, &accepted),
             Command::Once(values) => run_reply(alloc, plan, limits, &accepted, values, steps),
         },
-        Err(PlanRefusal::Memory) => Err(AllocError),
-        Err(fault) => refused_reply(alloc, plan, limits, &fault),
+        Judgement::Refused(refused) => refused_reply(alloc, plan, limits, &refused),
     }
 }
 
@@ -59,16 +58,16 @@ fn refused_reply(
     alloc: Global,
     plan: TextFile<'_>,
     limits: TextFile<'_>,
-    fault: &PlanRefusal,
+    told: &RefusedPlan,
 ) -> Result<FileReply, AllocError>
-    requires { IsRefused plan.bytes.now limits.bytes.now fault.now }
+    requires { IsRefusedPlan plan.bytes.now limits.bytes.now told.now }
     ensures answer { IfOk result
-        (λ reply. IsRefusal plan.entry.bytes.now fault.now (answer_of reply)) }
+        (λ reply. IsRefusal plan.entry.bytes.now told.now.refusal (answer_of reply)) }
     ensures reason { IfOk result (λ reply. IfSome reply.reason (λ text.
-        TellsFaults (files_of plan.entry limits.entry) fault.now (string_bytes text))) }
+        TellsFaults (files_of plan.entry limits.entry) told.now.refusal (string_bytes text))) }
 {
-    let Reply { text, steps, .. } = refused(alloc, plan.bytes, fault)?;
-    let reason = refusal_lines(alloc, plan, limits, fault)?;
+    let Reply { text, steps, .. } = refused(alloc, plan.bytes, &told.refusal)?;
+    let reason = refusal_lines(alloc, plan, limits, told)?;
     Ok(FileReply {
         text,
         reason: Some(reason),

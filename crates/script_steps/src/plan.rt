@@ -2,7 +2,7 @@
 ghost use Rattle.std.specs.Prelude.{◌≡◌, ◌≢◌, ℕ, List, IfOk, OnErr, Ok, Err};
 ghost use Rattle.std.specs.Result.{ForErr};
 ghost use Rattle.outside.specs.Causes.{Caused};
-ghost use Rattle.pap_plan.specs.Acceptance.{IsRefused, IsRefusedOrMemory};
+ghost use Rattle.pap_plan.specs.Judgements.{IsRefusedPlan};
 ghost use Rattle.plan_answers.specs.Answers.{IsRefusal};
 ghost use Rattle.script_steps.specs.private.Replies.{reply_of};
 ghost use Rattle.script_lang.specs.Commands as asked;
@@ -18,7 +18,7 @@ use crate::stop::LineStop;
 use crate::trial::trial_reply;
 use diagnostics::refusal_lines;
 use outside::Files;
-use pap_plan::{Plan, PlanRefusal, accept};
+use pap_plan::{Judgement, Plan, PlanRefusal, RefusedPlan, judge_plan};
 use payroll_records::Day;
 use plain_words::{TextFile, plan_words};
 use plan_answers::{Reply, bound_line, read_both};
@@ -122,16 +122,17 @@ fn judge_texts(
 ) -> Result<Judged, AllocError>
     ensures { IfOk result (IsJudged plan.entry.bytes.now limits.entry.bytes.now) }
 {
-    match accept(alloc, plan.bytes, limits.bytes) {
-        Ok(accepted) => {
+    match judge_plan(alloc, plan.bytes, limits.bytes)? {
+        Judgement::Accepted(accepted) => {
             let line = bound_line(alloc, &accepted)?;
             Ok(Judged::Accepted {
                 plan: accepted,
                 line,
             })
         }
-        Err(PlanRefusal::Memory) => Err(AllocError),
-        Err(fault) => Ok(Judged::Refused(refused_plan(alloc, plan, limits, &fault)?)),
+        Judgement::Refused(refused) => {
+            Ok(Judged::Refused(refused_plan(alloc, plan, limits, &refused)?))
+        }
     }
 }
 
@@ -140,13 +141,14 @@ fn refused_plan(
     alloc: Global,
     plan: TextFile<'_>,
     limits: TextFile<'_>,
-    fault: &PlanRefusal,
+    told: &RefusedPlan,
 ) -> Result<LineReply, AllocError>
-    requires { IsRefusedOrMemory plan.bytes.now limits.bytes.now fault.now }
-    ensures { IfOk result (λ reply. IsRefusal plan.entry.bytes.now fault.now (reply_of reply)) }
+    requires { IsRefusedPlan plan.bytes.now limits.bytes.now told.now }
+    ensures { IfOk result
+        (λ reply. IsRefusal plan.entry.bytes.now told.now.refusal (reply_of reply)) }
 {
-    let Reply { text, steps, .. } = plan_answers::refused(alloc, plan.bytes, fault)?;
-    let wrong = refusal_words(alloc, plan, limits, fault)?;
+    let Reply { text, steps, .. } = plan_answers::refused(alloc, plan.bytes, &told.refusal)?;
+    let wrong = refusal_words(alloc, plan, limits, told)?;
     Ok(LineReply {
         text,
         wrong: Some(wrong),
@@ -154,21 +156,21 @@ fn refused_plan(
     })
 }
 
-/// Why a plan is refused, and where a node may fail on inputs within their ranges, within which ranges its operands lie there.
+/// Why a plan is refused, and where the walk over its values refuses it, which ranges it has there.
 fn refusal_words(
     alloc: Global,
     plan: TextFile<'_>,
     limits: TextFile<'_>,
-    fault: &PlanRefusal,
+    told: &RefusedPlan,
 ) -> Result<String, AllocError>
-    requires { IsRefused plan.bytes.now limits.bytes.now fault.now }
+    requires { IsRefusedPlan plan.bytes.now limits.bytes.now told.now }
 {
-    match fault {
+    match &told.refusal {
         PlanRefusal::Range(_) => {
-            let lines = refusal_lines(alloc, plan, limits, fault)?;
+            let lines = refusal_lines(alloc, plan, limits, told)?;
             joined(alloc, &lines)
         }
-        _ => plan_words(alloc, plan, limits, fault),
+        refusal => plan_words(alloc, plan, limits, refusal),
     }
 }
 
