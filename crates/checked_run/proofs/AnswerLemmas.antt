@@ -13,7 +13,8 @@ use Rattle.checked_run.specs.declared.expressions.Evaluated.{Evaluated}
 use Rattle.checked_run.specs.declared.failure.NodeFailure.{NodeFailure}
 use Rattle.checked_run.specs.OperationFailures.{TwoFails}
 use Rattle.checked_run.specs.private.OperationViews.{TwoAnswer}
-use Rattle.checked_run.specs.private.ValueViews.{values_in, IsEvaluated, EvaluationAnswer, OwnAnswer}
+use Rattle.run_values.specs.private.ValueViews.{values_in}
+use Rattle.checked_run.specs.private.ValueViews.{IsEvaluated, EvaluationAnswer, OwnAnswer}
 use Rattle.checked_run.proofs.ExpressionLemmas.{two_to}
 
 module _ (p : PlanText) (at : ℕ) (vs : List Decimal) where

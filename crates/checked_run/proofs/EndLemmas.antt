@@ -19,7 +19,8 @@ use Rattle.checked_run.specs.declared.failure.RunFailure.{RunFailure}
 use Rattle.checked_run.specs.declared.statements.Spot.{Spot}
 use Rattle.checked_run.specs.RunEnds.{EndsAs}
 use Rattle.checked_run.specs.RunFailures.{RunsTo, BodyFails, CallsFail, RunFails}
-use Rattle.checked_run.specs.private.ValueViews.{with_names, values_in, IsStart}
+use Rattle.run_values.specs.NumberedValues.{variables_named, IsStart}
+use Rattle.run_values.specs.private.ValueViews.{values_in}
 use Rattle.checked_run.specs.private.WalkViews.{RunsFromTo, FailsFrom, CanRun}
 
 -- where MAIN begins
@@ -27,7 +28,7 @@ abbrev pub main_spot : List ℕ → Spot
 main_spot name = record { method = name; at = 0; chain = longest_chain }
 
 pub main_can : (p : PlanText) (inputs vs ws : List Decimal) (name : List ℕ) (b : Body) → IsWellTyped (flowchart_of p)
-    → IsWithinCounts (flowchart_of p) → b ≡ (flowchart_of p).main → vs ≡ ws → IsStart p inputs ws
+    → IsWithinCounts (flowchart_of p) → b ≡ (flowchart_of p).main → vs ≡ ws → IsStart (flowchart_of p) inputs ws
     → CanRun p (main_spot name) b vs
 main_can p inputs vs ws name b typed counts is same begin =
     let main : CanRun p (main_spot name) (flowchart_of p).main ws = record {
@@ -41,14 +42,14 @@ main_can p inputs vs ws name b typed counts is same begin =
 
 -- the values of named values
 values_named : (names : List (List ℕ)) (vs : List Decimal) → length vs ≡ length names
-    → map (λ v. v.value) (with_names names vs) ≡ vs
+    → map (λ v. v.value) (variables_named names vs) ≡ vs
 values_named [] [] e = refl
 values_named [] (v ∷ vs) e = absurd (omega arith)
 values_named (x ∷ xs) [] e = absurd (omega arith)
 values_named (x ∷ xs) (v ∷ vs) e = ap (λ rest. v ∷ rest) (values_named xs vs (omega arith))
 
 module _ (p : PlanText) (inputs vs ws : List Decimal) (name : List ℕ) (b : Body) (called : name ≡ main_name)
-    (is : b ≡ (flowchart_of p).main) (same : vs ≡ ws) (begin : IsStart p inputs ws) where
+    (is : b ≡ (flowchart_of p).main) (same : vs ≡ ws) (begin : IsStart (flowchart_of p) inputs ws) where
   -- the values with which the run begins
   begins : values_in p vs ≡ start (flowchart_of p) inputs
   begins = ap (values_in p) same ∙ begin.values

@@ -1,7 +1,3 @@
-mod NameLemmas
-mod StartLemmas
-mod PutLemmas
-mod MethodLemmas
 mod ExpressionLemmas
 pub mod RunLemmas
 pub mod AnswerLemmas
@@ -9,4 +5,3 @@ pub mod UnsafeLemmas
 pub mod FitLemmas
 pub mod OperationLemmas
 pub mod EndLemmas
-pub mod DivisorLemmas

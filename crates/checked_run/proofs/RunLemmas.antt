@@ -16,16 +16,16 @@ use Rattle.pap_types.specs.Operations.{is_zero}
 use Rattle.pap_types.specs.Routines.{body_named}
 use Rattle.pap_types.specs.Runs.{Calls, after, assigned, IsSafeBody, calls_of}
 use Rattle.pap_types.specs.Scopes.{Scope}
-use Rattle.pap_types.specs.Typing.{IsTypedBody}
 use Rattle.pap_types.specs.Values.{Env, value}
 use Rattle.pap_types.specs.private.ScopeViews.{scope_in}
 use Rattle.checked_run.specs.declared.failure.RunFailure.{RunFailure}
 use Rattle.checked_run.specs.declared.failure.RunFailure.TheVariants.{Chain}
 use Rattle.checked_run.specs.declared.statements.Spot.{Spot}
 use Rattle.checked_run.specs.RunFailures.{EvaluatesTo, ExpressionFails, RunsTo, ExecutesTo, BodyFails, CallsFail}
-use Rattle.checked_run.specs.private.ValueViews.{values_in, IsSized}
+use Rattle.run_values.specs.private.ValueViews.{values_in, IsSized}
 use Rattle.checked_run.specs.private.WalkViews.{calls_by, RunsFromTo, FailsFrom, CanRun}
 use Rattle.pap_tree.proofs.Laws.{written-then}
+use Rattle.run_values.proofs.Laws.{typed_here, typed_rest}
 use Rattle.checked_run.proofs.ExpressionLemmas.{same_value}
 
 -- ---- bools and options
@@ -278,18 +278,6 @@ chain_fails scope ms m env zero e = refl
 chain_fails scope ms m env (suc n) e = absurd (omega arith)
 
 -- ---- what may be run
-
-module _ (scope : Scope) (ms : List Routine) where
-  typed_here : (s : Stmt) (rest : Body) → IsTypedBody scope ms (stmt_then s rest)
-      → IsTypedBody scope ms (stmt_then s done)
-  typed_here (Eval x e) rest h = (h.0, h.1, tt)
-  typed_here (If' t m ys n zs) rest h = (h.0, h.1, h.2, h.3, tt)
-  typed_here (Execute x) rest h = (h.0, tt)
-
-  typed_rest : (s : Stmt) (rest : Body) → IsTypedBody scope ms (stmt_then s rest) → IsTypedBody scope ms rest
-  typed_rest (Eval x e) rest h = h.2
-  typed_rest (If' t m ys n zs) rest h = h.4
-  typed_rest (Execute x) rest h = h.1
 
 small_here : (s : Stmt) (rest : Body) → AreSmallTerms (stmt_then s rest) → AreSmallTerms (stmt_then s done)
 small_here (Eval x e) rest h = (h.0, tt)

@@ -7,10 +7,10 @@ ghost use Rattle.checked_run.specs.private.ValueViews.{CanEvaluate, IsEvaluated,
 
 use crate::FailureCause;
 use crate::failure::NodeFailure;
-use crate::names::{table, value_of_name};
-use crate::operations::{goes_right, is_zero, item, one_value, two_value};
+use crate::operations::{one_value, two_value};
 use pap_tree::{Expr, Name, One, Two};
 use pap_types::{NodeKind, Typed, kind_of_one, kind_of_two, outline_of};
+use run_values::{goes_right, is_zero, item, table, value_of_name};
 use scaled_decimal::Dec;
 
 /// The value of an expression, its kind, and the number that follows its nodes'.

@@ -7,11 +7,9 @@ mod cause;
 mod expressions;
 mod failure;
 mod fits;
-mod names;
 mod operations;
 mod run;
 mod statements;
-mod values;
 
 pub use cause::FailureCause;
 pub use failure::RunFailure;

@@ -1,17 +1,14 @@
 //! The values of single operations, or why they fail.
-ghost use Rattle.std.specs.Prelude.{◌≡◌, ◌≢◌, MatchOption, Some, None, pos};
+ghost use Rattle.std.specs.Prelude.{◌≡◌, ◌≢◌, pos};
 ghost use Rattle.scaled_decimal.specs.Decimals.{numerator_of};
 ghost use Rattle.scaled_decimal.specs.ExactQuotients.{IsPlainDivisor};
-ghost use Rattle.scaled_decimal.specs.ShortenedDecimals.{exact_quotient};
-ghost use Rattle.scaled_decimal.specs.WorkingNumbers.{ExactQuotientFits};
-ghost use Rattle.scaled_decimal.specs.WholeNumbers.{truth, item_at, whole_sum, whole_difference, whole_quotient, whole_remainder};
+ghost use Rattle.scaled_decimal.specs.WholeNumbers.{whole_sum, whole_difference, whole_quotient, whole_remainder};
 ghost use Rattle.pap_tree.specs.Scales.{OneKeepsScale, TwoKeepsScale};
 ghost use Rattle.pap_tree.specs.Shapes.{one_meant, two_meant};
 ghost use Rattle.pap_tree.specs.Term.{Term, term_of, unary, set_scale, operator, method, divide};
-ghost use Rattle.pap_types.specs.Operations.{as_big, is_zero, holds_of};
 ghost use Rattle.pap_types.specs.Safety.{bits_of};
-ghost use Rattle.pap_types.specs.Values.{goes_right};
-ghost use Rattle.checked_run.specs.private.OperationViews.{WholeAnswer, OneAnswer, TwoAnswer, IsPlainFor, IsPlainForTwo, IsComparison, IsOrdering};
+ghost use Rattle.checked_run.specs.private.OperationViews.{WholeAnswer, OneAnswer, TwoAnswer, IsComparison, IsOrdering};
+ghost use Rattle.run_values.specs.private.OperationViews.{IsPlainFor, IsPlainForTwo};
 
 use crate::FailureCause;
 use crate::fits::{
@@ -19,45 +16,9 @@ use crate::fits::{
     quotient_fits, rescale_fits, sum_fits,
 };
 use pap_tree::{Binary, Call, Expr, One, Two, Unary};
-use pap_types::{NodeKind, shortened};
+use pap_types::NodeKind;
+use run_values::{as_big, holds, is_zero, truth};
 use scaled_decimal::{Dec, MOST_PLACES, Mode};
-use std::cmp::Ordering;
-
-/// A truth, which is 1 or 0.
-fn truth(holds: bool) -> Dec
-    ensures { result ≡ truth holds }
-{
-    Dec::new(holds as i128, 0)
-}
-
-/// Whether a value is zero, as a truth that doesn't hold.
-pub(crate) fn is_zero(a: Dec) -> bool
-    ensures { result ≡ is_zero a }
-{
-    a.numerator() == 0
-}
-
-/// Whether the right operand is evaluated, given the value of the left one.
-pub(crate) fn goes_right(op: Two, left: Dec) -> bool
-    ensures { result ≡ goes_right (two_meant op) left }
-{
-    match op {
-        Two::Operator(Binary::And) => !is_zero(left),
-        Two::Operator(Binary::Or) => is_zero(left),
-        Two::Operator(_) | Two::Method(_) | Two::Divide(_, _) => true,
-    }
-}
-
-/// An item of a table, where the index is within it.
-pub(crate) fn item(items: &[Dec], index: Dec) -> Option<Dec>
-    ensures { MatchOption result (item_at items.now (numerator_of index) ≡ None)
-        (λ v. item_at items.now (numerator_of index) ≡ Some v) }
-{
-    match usize::try_from(index.numerator()) {
-        Ok(number) => items.get(number).copied(),
-        Err(_) => None,
-    }
-}
 
 /// A whole number of a kind.
 fn whole(kind: NodeKind, n: i128) -> Result<Dec, FailureCause>
@@ -67,16 +28,6 @@ fn whole(kind: NodeKind, n: i128) -> Result<Dec, FailureCause>
         Ok(Dec::new(n, 0))
     } else {
         Err(FailureCause::Wide)
-    }
-}
-
-/// `BigDecimal.valueOf`: a literal with a point loses the zeros that end it but for one place, any other value is kept.
-fn as_big(operand: &Expr, a: Dec) -> Dec
-    ensures { result ≡ as_big (term_of operand.now) a }
-{
-    match operand {
-        Expr::Point(number) => shortened(*number),
-        _ => a,
     }
 }
 
@@ -117,7 +68,7 @@ fn rescaled(a: Dec, scale: u8, mode: Mode) -> Result<Dec, FailureCause>
     ensures { (kind : NodeKind) (t : Term) → OneAnswer (set_scale scale mode) kind t a result }
 {
     if rescale_fits(a, scale) {
-        Ok(a.set_scale(scale, mode))
+        Ok(run_values::rescaled(a, scale, mode))
     } else {
         Err(FailureCause::Wide)
     }
@@ -242,21 +193,6 @@ fn compared(op: Binary, a: Dec, b: Dec) -> Result<Dec, FailureCause>
     }
 }
 
-/// Whether a comparison holds of two values in this order. No other operator is one.
-fn holds(op: Binary, order: Ordering) -> bool
-    ensures { result ≡ holds_of op order }
-{
-    match op {
-        Binary::Less => order.is_lt(),
-        Binary::LessEq => order.is_le(),
-        Binary::More => order.is_gt(),
-        Binary::MoreEq => order.is_ge(),
-        Binary::Same => order.is_eq(),
-        Binary::Differs => order.is_ne(),
-        _ => false,
-    }
-}
-
 /// A method of a decimal with one argument.
 fn method_value(call: Call, a: Dec, b: Dec) -> Result<Dec, FailureCause>
     requires { IsPlainFor call b }
@@ -316,19 +252,10 @@ fn exact_quotient(a: Dec, b: Dec) -> Result<Dec, FailureCause>
         return Err(FailureCause::Scale);
     }
     if exact_quotient_fits(a, b, places) {
-        Ok(exact_quotient_of(a, b))
+        Ok(run_values::exact_quotient(a, b))
     } else {
         Err(FailureCause::Wide)
     }
-}
-
-/// An exact quotient that fits.
-fn exact_quotient_of(a: Dec, b: Dec) -> Dec
-    requires plain { IsPlainDivisor (numerator_of b) }
-    requires fits { ExactQuotientFits a (numerator_of b) }
-    ensures { result ≡ exact_quotient a (numerator_of b) }
-{
-    a.div_exact(b.numerator())
 }
 
 /// The order of two decimals as a number, or the lesser or the greater one.
@@ -355,7 +282,7 @@ fn quotient(a: Dec, b: Dec, scale: u8, mode: Mode) -> Result<Dec, FailureCause>
         return Err(FailureCause::Divisor);
     }
     if quotient_fits(a, b, scale) {
-        Ok(a.div(b, scale, mode))
+        Ok(run_values::quotient(a, b, scale, mode))
     } else {
         Err(FailureCause::Wide)
     }

@@ -9,9 +9,9 @@ ghost use Rattle.checked_run.specs.RunFailures.{RunFails};
 
 use crate::RunFailure;
 use crate::statements::{Spot, run_body};
-use crate::values::start_values;
 use pap_tree::Name;
 use pap_types::{LONGEST_CHAIN, Typed};
+use run_values::start_values;
 use scaled_decimal::Dec;
 use std::alloc::{AllocError, Global};
 

@@ -1,8 +1,5 @@
-mod NameLemmas
 mod OperationLemmas
 mod ExpressionLemmas
-mod StartLemmas
-mod PutLemmas
 mod MethodLemmas
 mod RunLemmas
 pub mod ThereLemmas

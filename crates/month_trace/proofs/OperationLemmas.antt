@@ -1,12 +1,9 @@
 -- What a defined operation has.
-use Rattle.std.proofs.Common.{◌≡◌, ◌≢◌, Bool, true, false, ℤ, pos, Option, Some, None, refl, sym, subst, true≢false, to_z, of_z, arith}
+use Rattle.std.proofs.Common.{◌≡◌, ◌≢◌, Bool, true, false, pos, Option, Some, None, refl, sym, subst, true≢false}
 use Rattle.std.specs.Prelude.{IsSome, if◌then◌else◌}
 use Rattle.std.specs.Option.{option_and_then}
-use Rattle.std.specs.Int.{w128}
 use Rattle.std.specs.Ordering.{int_eq}
-use Rattle.std.proofs.lemmas.Int.{to_z-of_z, fits_signed_from_abs}
 use Rattle.scaled_decimal.specs.Decimals.{Decimal, numerator_of}
-use Rattle.scaled_decimal.specs.Limits.{IsWithinLimit}
 use Rattle.pap_types.specs.Operations.{is_zero, unless_zero}
 
 -- ---- values that are there
@@ -46,7 +43,3 @@ unless_is b x h = by_test (is_zero b) h
 
 pub not_zero : (b x : Decimal) → IsSome (unless_zero b x) → numerator_of b ≢ pos 0
 not_zero b x h e = true≢false (sym (subst (λ n. IsSome (if int_eq n (pos 0) then None else Some x)) e h))
-
--- a number within the limit as 128 bits hold it
-pub held_is : (n : ℤ) → IsWithinLimit n → to_z w128 (of_z w128 n) ≡ n
-held_is n h = to_z-of_z w128 n (fits_signed_from_abs w128 n (omega arith))

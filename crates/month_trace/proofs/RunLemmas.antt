@@ -13,17 +13,18 @@ use Rattle.pap_types.specs.Operations.{is_zero}
 use Rattle.pap_types.specs.Routines.{body_named}
 use Rattle.pap_types.specs.Runs.{Calls, after, assigned, IsSafeBody, calls_of}
 use Rattle.pap_types.specs.Scopes.{Scope}
-use Rattle.pap_types.specs.Typing.{IsTypedBody}
 use Rattle.pap_types.specs.Values.{Env, value}
 use Rattle.month_trace.specs.declared.step.TraceStep.{TraceStep}
 use Rattle.month_trace.specs.declared.step.TraceStep.TheVariants.{Set, Test, Enter}
 use Rattle.month_trace.specs.declared.statements.Spot.{Spot}
-use Rattle.month_trace.specs.Traces.{Trace, first_then, both_in_order, value_put, traced, traces_of}
+use Rattle.run_values.specs.NumberedValues.{value_put}
+use Rattle.month_trace.specs.Traces.{Trace, first_then, both_in_order, traced, traces_of}
 use Rattle.pap_types.specs.private.ScopeViews.{scope_in}
-use Rattle.month_trace.specs.private.ValueViews.{values_in, IsSized}
+use Rattle.run_values.specs.private.ValueViews.{values_in, IsSized}
 use Rattle.pap_tree.specs.private.TreeViews.{methods_in}
 use Rattle.month_trace.specs.private.WalkViews.{calls_by, traces_by, after_in, traced_in, followed, CanRun, Progress, Goes}
 use Rattle.pap_tree.proofs.Laws.{written-then}
+use Rattle.run_values.proofs.Laws.{typed_here, typed_rest}
 use Rattle.month_trace.proofs.OperationLemmas.{some_first, some_step}
 
 -- ---- options
@@ -199,18 +200,6 @@ module _ (scope : Scope) (ms : List Routine) (m : List ℕ) (env : Env) where
         subst (λ k. IsSafeBody scope (calls_of scope ms k) b env) less (h b is)
 
 -- ---- what may be run
-
-module _ (scope : Scope) (ms : List Routine) where
-  typed_here : (s : Stmt) (rest : Body) → IsTypedBody scope ms (stmt_then s rest)
-      → IsTypedBody scope ms (stmt_then s done)
-  typed_here (Eval x e) rest h = (h.0, h.1, tt)
-  typed_here (If' t m ys n zs) rest h = (h.0, h.1, h.2, h.3, tt)
-  typed_here (Execute x) rest h = (h.0, tt)
-
-  typed_rest : (s : Stmt) (rest : Body) → IsTypedBody scope ms (stmt_then s rest) → IsTypedBody scope ms rest
-  typed_rest (Eval x e) rest h = h.2
-  typed_rest (If' t m ys n zs) rest h = h.4
-  typed_rest (Execute x) rest h = h.1
 
 module _ (p : PlanText) (spot : Spot) (s : Stmt) (rest : Body) where
   -- a statement, and those behind it

@@ -16,7 +16,8 @@ use Rattle.pap_types.specs.Scopes.{Scope, scope_of}
 use Rattle.pap_types.specs.Values.{Env, value}
 use Rattle.month_trace.specs.declared.step.TraceStep.{TraceStep}
 use Rattle.month_trace.specs.declared.step.TraceStep.TheVariants.{Set, Test, Enter}
-use Rattle.month_trace.specs.Traces.{Trace, first_then, both_in_order, value_put, traced, traces_of, trace_of}
+use Rattle.run_values.specs.NumberedValues.{value_put}
+use Rattle.month_trace.specs.Traces.{Trace, first_then, both_in_order, traced, traces_of, trace_of}
 use Rattle.month_trace.specs.TraceLaws.{HasOneTrace}
 use Rattle.month_trace.proofs.OperationLemmas.{the_value}
 

@@ -1,10 +1,10 @@
 -- The trace of a run: the statements that it executes, in their order, each with what it did.
 use Rattle.std.specs.Prelude.{ℕ, zero, suc, ◌+◌, not, if◌then◌else◌, List, [], ◌∷◌, ◌++◌, Option, Some, None}
-use Rattle.std.specs.Option.{option_map, option_and_then, option_map_or}
+use Rattle.std.specs.Option.{option_map, option_and_then}
 use Rattle.scaled_decimal.specs.Decimals.{Decimal}
 use Rattle.pap_tree.specs.Flowchart.{Body, done, eval, branch, execute, Routine, Flowchart}
 use Rattle.pap_tree.specs.Statements.{written}
-use Rattle.pap_types.specs.Scopes.{Scope, scope_of, declared_as, kept_as}
+use Rattle.pap_types.specs.Scopes.{Scope, scope_of}
 use Rattle.pap_types.specs.Operations.{is_zero}
 use Rattle.pap_types.specs.Values.{Env, value}
 use Rattle.pap_types.specs.Routines.{body_named}
@@ -12,6 +12,7 @@ use Rattle.pap_tree.specs.Names.{main_name}
 use Rattle.pap_types.specs.Runs.{Calls, after, assigned, calls_of}
 use Rattle.pap_types.specs.Limits.{longest_chain}
 use Rattle.pap_types.specs.Meaning.{calls_in, start}
+use Rattle.run_values.specs.NumberedValues.{value_put}
 use Rattle.month_trace.specs.declared.step.TraceStep.{TraceStep}
 use Rattle.month_trace.specs.declared.step.TraceStep.TheVariants.{Set, Test, Enter}
 
@@ -28,10 +29,6 @@ abbrev pub both_in_order : Trace → Trace → Trace
 both_in_order one rest = option_and_then (λ xs. option_map (λ ys. xs ++ ys) rest) one
 
 module _ (scope : Scope) where
-  -- the value that an assignment puts: a literal that goes to a `double` gets three places
-  abbrev pub value_put : List ℕ → Decimal → Decimal
-  value_put x v = option_map_or (λ d. kept_as d.kind v) (declared_as scope.variables x) v
-
   -- Given what methods do and what their executions add to a trace: the trace of a list of statements of a method, the
   -- first of which has this number.
   module _ (calls : Calls) (inside : List ℕ → Env → Trace) (name : List ℕ) where
@@ -40,7 +37,7 @@ module _ (scope : Scope) where
     traced at done env = Some []
     traced at (eval x e rest) env =
         option_and_then
-        (λ v. first_then (Set name at x (value_put x v)) (traced (at + 1) rest (assigned scope x v env)))
+        (λ v. first_then (Set name at x (value_put scope x v)) (traced (at + 1) rest (assigned scope x v env)))
         (value scope e env)
     traced at (branch t a b rest) env =
         option_and_then

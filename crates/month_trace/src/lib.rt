@@ -8,7 +8,6 @@ mod refusal;
 mod run;
 mod statements;
 mod step;
-mod values;
 
 pub use book::trace;
 pub use refusal::TraceRefusal;

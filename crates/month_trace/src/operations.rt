@@ -1,20 +1,15 @@
 //! The values of single operations.
-ghost use Rattle.std.specs.Prelude.{◌≡◌, ◌≢◌, Some, IsSome, pos};
+ghost use Rattle.std.specs.Prelude.{◌≡◌, ◌≢◌, Some, pos};
 ghost use Rattle.scaled_decimal.specs.Decimals.{numerator_of};
-ghost use Rattle.scaled_decimal.specs.ExactQuotients.{IsPlainDivisor};
-ghost use Rattle.scaled_decimal.specs.ShortenedDecimals.{exact_quotient};
-ghost use Rattle.scaled_decimal.specs.RoundedDecimals.{rescaled};
-ghost use Rattle.scaled_decimal.specs.WholeNumbers.{IsOfBits, long_bits, whole_quotient, whole_remainder, whole_difference, whole_decimal, truth, item_at, of_wholes};
-ghost use Rattle.scaled_decimal.specs.WorkingNumbers.{RescaleFits, ExactQuotientFits};
-ghost use Rattle.pap_tree.specs.Term.{Term, term_of, unary, operator, divide};
-ghost use Rattle.pap_types.specs.Operations.{as_big, is_zero, of_one, of_operator, of_method, of_two, holds_of};
-ghost use Rattle.pap_types.specs.Values.{goes_right};
-ghost use Rattle.month_trace.specs.private.OperationViews.{CanTakeOne, CanOperate, CanCall, CanDivide};
+ghost use Rattle.scaled_decimal.specs.WholeNumbers.{IsOfBits, long_bits, whole_quotient, whole_remainder, whole_difference, whole_decimal, of_wholes};
+ghost use Rattle.pap_tree.specs.Shapes.{one_meant, two_meant};
+ghost use Rattle.pap_tree.specs.Term.{Term, term_of, unary, operator, method, divide};
+ghost use Rattle.pap_types.specs.Operations.{of_one, of_operator, of_method, of_two};
+ghost use Rattle.month_trace.specs.private.OperationViews.{CanTakeOne, CanTakeTwo};
 
-use pap_tree::{Binary, Call, Expr, Unary};
-use pap_types::shortened;
+use pap_tree::{Binary, Call, Expr, One, Two, Unary};
+use run_values::{as_big, exact_quotient, holds, is_zero, rescaled, truth};
 use scaled_decimal::{Dec, Mode};
-use std::cmp::Ordering;
 
 /// A whole number.
 fn whole(number: i128) -> Dec
@@ -24,51 +19,22 @@ fn whole(number: i128) -> Dec
     Dec::new(number, 0)
 }
 
-/// A truth, which is 1 or 0.
-fn truth(holds: bool) -> Dec
-    ensures { result ≡ truth holds }
-{
-    Dec::new(holds as i128, 0)
-}
-
-/// Whether a value is zero, as a truth that doesn't hold.
-pub(crate) fn is_zero(a: Dec) -> bool
-    ensures { result ≡ is_zero a }
-{
-    a.numerator() == 0
-}
-
-/// Whether the right operand of an operator is evaluated, given the value of the left one.
-pub(crate) fn goes_right(op: Binary, left: Dec) -> bool
-    ensures { result ≡ goes_right (operator op) left }
+/// What is done with one operand.
+pub(crate) fn one_value(op: One, operand: &Expr, a: Dec) -> Dec
+    requires { CanTakeOne (one_meant op) a }
+    ensures { result ≡ of_one (one_meant op) (term_of operand.now) a }
 {
     match op {
-        Binary::And => !is_zero(left),
-        Binary::Or => is_zero(left),
-        _ => true,
-    }
-}
-
-/// An item of a table.
-pub(crate) fn item(items: &[Dec], index: Dec) -> Dec
-    requires { IsSome (item_at items.now (numerator_of index)) }
-    ensures { item_at items.now (numerator_of index) ≡ Some result }
-{
-    items[index.numerator() as usize]
-}
-
-/// `BigDecimal.valueOf`: a literal with a point loses the zeros that end it but for one place, any other value is kept.
-pub(crate) fn as_big(operand: &Expr, a: Dec) -> Dec
-    ensures { result ≡ as_big (term_of operand.now) a }
-{
-    match operand {
-        Expr::Point(number) => shortened(*number),
-        _ => a,
+        One::Unary(op) => unary_value(op, a),
+        One::ValueOf => as_big(operand, a),
+        One::ValueOfScaled(scale) => Dec::new(a.numerator(), scale),
+        One::NewInt => a,
+        One::SetScale(scale, mode) => rescaled(a, scale, mode),
     }
 }
 
 /// An operation on one operand.
-pub(crate) fn unary_value(op: Unary, a: Dec) -> Dec
+fn unary_value(op: Unary, a: Dec) -> Dec
     requires { CanTakeOne (unary op) a }
     ensures { (e : Term) → result ≡ of_one (unary op) e a }
 {
@@ -80,12 +46,16 @@ pub(crate) fn unary_value(op: Unary, a: Dec) -> Dec
     }
 }
 
-/// The value at another scale.
-pub(crate) fn rescaled(a: Dec, scale: u8, mode: Mode) -> Dec
-    requires { RescaleFits mode a scale }
-    ensures { result ≡ rescaled mode scale a }
+/// What is done with two operands.
+pub(crate) fn two_value(op: Two, a: Dec, b: Dec) -> Dec
+    requires { CanTakeTwo (two_meant op) a b }
+    ensures { of_two (two_meant op) a b ≡ Some result }
 {
-    a.set_scale(scale, mode)
+    match op {
+        Two::Operator(op) => operator_value(op, a, b),
+        Two::Method(call) => method_value(call, a, b),
+        Two::Divide(scale, mode) => quotient(a, b, scale, mode),
+    }
 }
 
 /// The quotient of whole numbers, cut towards zero.
@@ -114,9 +84,9 @@ fn whole_difference(a: Dec, b: Dec) -> Dec
     whole(a.numerator() - b.numerator())
 }
 
-/// An operator between the values of its operands.
-pub(crate) fn operator_value(op: Binary, a: Dec, b: Dec) -> Dec
-    requires { CanOperate op a b }
+/// An operator between its operands.
+fn operator_value(op: Binary, a: Dec, b: Dec) -> Dec
+    requires { CanTakeTwo (operator op) a b }
     ensures { of_operator op a b ≡ Some result }
 {
     match op {
@@ -135,33 +105,9 @@ pub(crate) fn operator_value(op: Binary, a: Dec, b: Dec) -> Dec
     }
 }
 
-/// Whether a comparison holds of two values in this order. No other operator is one.
-fn holds(op: Binary, order: Ordering) -> bool
-    ensures { result ≡ holds_of op order }
-{
-    match op {
-        Binary::Less => order.is_lt(),
-        Binary::LessEq => order.is_le(),
-        Binary::More => order.is_gt(),
-        Binary::MoreEq => order.is_ge(),
-        Binary::Same => order.is_eq(),
-        Binary::Differs => order.is_ne(),
-        _ => false,
-    }
-}
-
-/// The exact quotient by a plain divisor.
-fn exact_quotient(a: Dec, b: Dec) -> Dec
-    requires plain { IsPlainDivisor (numerator_of b) }
-    requires fits { ExactQuotientFits a (numerator_of b) }
-    ensures { result ≡ exact_quotient a (numerator_of b) }
-{
-    a.div_exact(b.numerator())
-}
-
 /// A method of a decimal with one argument.
-pub(crate) fn call_value(call: Call, a: Dec, b: Dec) -> Dec
-    requires { CanCall call a b }
+fn method_value(call: Call, a: Dec, b: Dec) -> Dec
+    requires { CanTakeTwo (method call) a b }
     ensures { of_method call a b ≡ Some result }
 {
     match call {
@@ -176,9 +122,9 @@ pub(crate) fn call_value(call: Call, a: Dec, b: Dec) -> Dec
 }
 
 /// A quotient with a scale.
-pub(crate) fn quotient(a: Dec, b: Dec, scale: u8, mode: Mode) -> Dec
-    requires { CanDivide scale mode a b }
+fn quotient(a: Dec, b: Dec, scale: u8, mode: Mode) -> Dec
+    requires { CanTakeTwo (divide scale mode) a b }
     ensures { of_two (divide scale mode) a b ≡ Some result }
 {
-    a.div(b, scale, mode)
+    run_values::quotient(a, b, scale, mode)
 }

@@ -10,10 +10,10 @@ ghost use Rattle.month_trace.specs.TraceLaws.{HasOneTrace, TellsOutputs, TracesE
 
 use crate::statements::{Spot, run_body};
 use crate::step::TraceStep;
-use crate::values::start_values;
 use pap_plan::Plan;
 use pap_tree::Name;
 use pap_types::{LONGEST_CHAIN, Typed};
+use run_values::start_values;
 use scaled_decimal::Dec;
 use std::alloc::{AllocError, Global};
 

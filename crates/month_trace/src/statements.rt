@@ -1,18 +1,14 @@
 //! The walk of a run, statement by statement.
-ghost use Rattle.std.specs.Prelude.{◌≡◌, IfSome, slice_get};
-ghost use Rattle.std.specs.Option.{option_map};
-ghost use Rattle.pap_tree.specs.Flowchart.{routine_of, body_of, stmt_then, done, eval, execute};
+ghost use Rattle.pap_tree.specs.Flowchart.{body_of, stmt_then, done, eval, execute};
 ghost use Rattle.pap_tree.specs.Term.{term_of};
-ghost use Rattle.pap_types.specs.Routines.{body_named};
-ghost use Rattle.pap_tree.specs.private.TreeViews.{if_of, methods_in};
-ghost use Rattle.month_trace.specs.private.WalkViews.{CanRun, CanExecute, IsMethodBody, GoesTo, GoesInside, progress};
+ghost use Rattle.pap_tree.specs.private.TreeViews.{if_of};
+ghost use Rattle.month_trace.specs.private.WalkViews.{CanRun, CanExecute, GoesTo, GoesInside, progress};
 
 use crate::expressions::value_of;
-use crate::operations::is_zero;
 use crate::step::TraceStep;
-use crate::values::put;
-use pap_tree::{Expr, Method, Name, Stmt, written};
+use pap_tree::{Expr, Name, Stmt, written};
 use pap_types::Typed;
+use run_values::{is_zero, method_body, put};
 use scaled_decimal::Dec;
 use std::alloc::AllocError;
 
@@ -169,27 +165,4 @@ fn run_method(
     };
     run_body(plan, spot, body, values, steps)?;
     Ok(())
-}
-
-/// The method of a number.
-fn method_at(plan: &Typed, number: usize) -> Option<&Method>
-    ensures { option_map (λ m. routine_of m.now) result ≡ slice_get (methods_in plan.now) number }
-{
-    plan.plan().methods.get(number)
-}
-
-/// The body of a method other than MAIN.
-fn method_body<'a>(plan: &'a Typed, name: &Name) -> Option<&'a [Stmt]>
-    ensures body { option_map (λ body. body_of body.now) result
-        ≡ body_named (methods_in plan.now) name.now }
-    ensures run { IfSome result (λ body. IsMethodBody plan.now (body_of body.now)) }
-{
-    let _counted = plan.plan();
-    match plan.method(name) {
-        Some(number) => match method_at(plan, number) {
-            Some(method) => Some(method.body.as_slice()),
-            None => None,
-        },
-        None => None,
-    }
 }

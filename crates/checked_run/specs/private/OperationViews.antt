@@ -1,14 +1,13 @@
 -- What private contracts say of single operations.
 use Rattle.std.specs.Prelude.{◌≡◌, ℕ, ℤ, ⊤, Some, Result, Ok, Err}
-use Rattle.scaled_decimal.specs.Decimals.{Decimal, numerator_of}
-use Rattle.scaled_decimal.specs.ExactQuotients.{IsPlainDivisor}
+use Rattle.scaled_decimal.specs.Decimals.{Decimal}
 use Rattle.scaled_decimal.specs.WholeNumbers.{IsOfBits, whole_decimal}
 use Rattle.pap_tree.specs.declared.expression.Binary.{Binary}
 use Rattle.pap_tree.specs.declared.expression.Binary.TheVariants as binaries
 use Rattle.pap_tree.specs.declared.expression.Call.{Call}
 use Rattle.pap_tree.specs.declared.expression.Call.TheVariants as calls
 use Rattle.pap_tree.specs.Term as meant
-use Rattle.pap_tree.specs.Term.{Term, operator, method, divide}
+use Rattle.pap_tree.specs.Term.{Term}
 use Rattle.pap_types.specs.declared.kinds.NodeKind.{NodeKind}
 use Rattle.pap_types.specs.Operations.{of_one, of_two}
 use Rattle.pap_types.specs.Safety.{OneFits, TwoFits}
@@ -17,15 +16,6 @@ use Rattle.checked_run.specs.declared.cause.FailureCause.TheVariants.{Wide}
 use Rattle.checked_run.specs.OperationFailures.{OneFails, TwoFails}
 
 -- ---- what it is done with
-
--- the divisor of divide(d) is a plain one
-abbrev pub IsPlainFor : Call → Decimal → Type 0
-IsPlainFor calls.DivideExact b = IsPlainDivisor (numerator_of b)
-IsPlainFor _ b = ⊤
-
-abbrev pub IsPlainForTwo : meant.Two → Decimal → Type 0
-IsPlainForTwo (method m) b = IsPlainFor m b
-IsPlainForTwo _ b = ⊤
 
 -- the operator is a comparison
 abbrev pub IsComparison : Binary → Type 0

@@ -14,7 +14,7 @@ use Rattle.pap_types.specs.private.ScopeViews.{scope_in}
 use Rattle.checked_run.specs.declared.failure.RunFailure.{RunFailure}
 use Rattle.checked_run.specs.declared.statements.Spot.{Spot}
 use Rattle.checked_run.specs.RunFailures.{EvaluatesTo, ExpressionFails, RunsTo, ExecutesTo, BodyFails, CallsFail}
-use Rattle.checked_run.specs.private.ValueViews.{values_in, HasValues}
+use Rattle.run_values.specs.private.ValueViews.{values_in, HasValues}
 
 -- ---- the definitions, for a plan, from values by number
 
@@ -52,12 +52,6 @@ pub record CanRun (p : PlanText) (spot : Spot) (b : Body) (vs : List Decimal) : 
 pub record CanExecute (p : PlanText) (m : List ℕ) (vs : List Decimal) : Type 0 where
   pub values : HasValues p vs
   pub there : IsMethod (methods_in p) m
-
--- the body of a method of a plan
-pub record IsMethodBody (p : PlanText) (b : Body) : Type 0 where
-  pub typed : IsTypedBody (scope_in p) (methods_in p) b
-  pub small : AreSmallTerms b
-  pub count : written b < 2 ^ 32
 
 -- ---- what is answered
 

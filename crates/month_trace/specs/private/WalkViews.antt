@@ -14,7 +14,7 @@ use Rattle.month_trace.specs.declared.step.TraceStep.{TraceStep}
 use Rattle.month_trace.specs.declared.statements.Spot.{Spot}
 use Rattle.month_trace.specs.Traces.{Trace, traced, traces_of}
 use Rattle.pap_types.specs.private.ScopeViews.{scope_in}
-use Rattle.month_trace.specs.private.ValueViews.{values_in, HasValues}
+use Rattle.run_values.specs.private.ValueViews.{values_in, HasValues}
 
 -- ---- the definitions, for a plan, from values by number
 
@@ -52,11 +52,6 @@ pub record CanExecute (p : PlanText) (m : List ℕ) (chain : ℕ) (vs : List Dec
   pub values : HasValues p vs
   pub safe : (calls_by p chain).IsSafeCall m (values_in p vs)
   pub defined : IsSome ((calls_by p chain).after m (values_in p vs))
-
--- the body of a method of a plan
-pub record IsMethodBody (p : PlanText) (b : Body) : Type 0 where
-  pub typed : IsTypedBody (scope_in p) (methods_in p) b
-  pub count : written b < 2 ^ 32
 
 -- ---- what is answered
 

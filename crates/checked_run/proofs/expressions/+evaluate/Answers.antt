@@ -2,7 +2,7 @@ use Rattle.std.proofs.Common.{sym, ◌∙◌}
 use Rattle.pap_tree.specs.Term.{term_of}
 use Rattle.pap_tree.specs.Shapes.{two_meant}
 use Rattle.checked_run.proofs.AnswerLemmas.{two_answer}
-use Rattle.checked_run.proofs.DivisorLemmas.{plain_two}
+use Rattle.run_values.proofs.Laws.{plain_two}
 use Rattle.checked_run.proofs.expressions.+evaluate.Goals as goal
 
 pub evaluate_two-two_value-requires-clause-plain : goal.evaluate_two-two_value-requires-clause-plain

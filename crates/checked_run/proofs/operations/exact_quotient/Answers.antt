@@ -10,7 +10,7 @@ returns-then-scale-places-gt-MOST_PLACES c =
 pub returns-then-exact_quotient_fits : goal.returns-then-exact_quotient_fits
 returns-then-exact_quotient_fits c =
     exact_found c.args.a c.args.b c.places_of-places.result c.requires c.places_of-places.ensures.places
-    c.exact_quotient_of.result (c.exact_quotient_fits.ensures.0 c.if-exact_quotient_fits.true) c.exact_quotient_of.ensures
+    c.exact_quotient.result (c.exact_quotient_fits.ensures.0 c.if-exact_quotient_fits.true) c.exact_quotient.ensures
 
 pub returns-else-exact_quotient_fits : goal.returns-else-exact_quotient_fits
 returns-else-exact_quotient_fits c =

@@ -1,22 +1,20 @@
 use Rattle.std.proofs.Common.{Some, sym, ap, ◌∙◌, true≢false}
 use Rattle.scaled_decimal.specs.RoundedDecimals.{quotient}
-use Rattle.scaled_decimal.proofs.Laws.{quotient_only}
-use Rattle.checked_run.proofs.OperationLemmas.{not_zero, quotient_there, quotient_given}
+use Rattle.checked_run.proofs.OperationLemmas.{quotient_there, quotient_given}
 use Rattle.checked_run.proofs.operations.quotient.Goals as goal
 
-pub div-requires-clause-fits : goal.div-requires-clause-fits
-div-requires-clause-fits c = (c.quotient_fits.ensures c.args.mode).0 c.if-quotient_fits.true
+pub quotient-requires-clause-fits : goal.quotient-requires-clause-fits
+quotient-requires-clause-fits c = (c.quotient_fits.ensures c.args.mode).0 c.if-quotient_fits.true
 
 pub returns-then-quotient_fits : goal.returns-then-quotient_fits
 returns-then-quotient_fits c = λ kind.
     let a = c.args.a in
     let b = c.args.b in
     let mode = c.args.mode in
-    let s = c.args.scale in
-    let some = sym c.is_zero.ensures ∙ c.if-is_zero.false in (
+    let s = c.args.scale in (
       (c.quotient_fits.ensures mode).0 c.if-quotient_fits.true,
-      quotient_given b (quotient mode s a b) some
-          ∙ ap (λ q. Some q) (sym (quotient_only mode s a b c.div.result (not_zero b some) c.div.ensures)),
+      quotient_given b (quotient mode s a b) (sym c.is_zero.ensures ∙ c.if-is_zero.false)
+          ∙ ap (λ q. Some q) (sym c.quotient.ensures),
     )
 
 pub returns-else-quotient_fits : goal.returns-else-quotient_fits

@@ -7,7 +7,7 @@ use Rattle.pap_tree.proofs.Laws.{stmt_at, branch_is, written_at}
 use Rattle.pap_types.specs.private.ScopeViews.{scope_in}
 use Rattle.pap_tree.specs.private.TreeViews.{methods_in}
 use Rattle.checked_run.specs.RunFailures.{CallsFail}
-use Rattle.checked_run.specs.private.ValueViews.{values_in}
+use Rattle.run_values.specs.private.ValueViews.{values_in}
 use Rattle.checked_run.specs.private.WalkViews.{calls_by, FailsFrom, CanRun, BodyAnswer, CallAnswer}
 use Rattle.checked_run.proofs.RunLemmas.{ComesOf, can_here, can_rest, comes_on, fails_on, executes, call_fails, chain_fails, nothing_runs}
 use Rattle.checked_run.proofs.statements.+statements.Goals as goal

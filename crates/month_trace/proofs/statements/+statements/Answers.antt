@@ -5,7 +5,7 @@ use Rattle.pap_tree.specs.Statements.{written}
 use Rattle.pap_tree.proofs.Laws.{stmt_at, branch_is, written_at}
 use Rattle.pap_types.specs.Routines.{body_named}
 use Rattle.pap_types.specs.private.ScopeViews.{scope_in}
-use Rattle.month_trace.specs.private.ValueViews.{values_in}
+use Rattle.run_values.specs.private.ValueViews.{values_in}
 use Rattle.pap_tree.specs.private.TreeViews.{methods_in}
 use Rattle.month_trace.specs.private.WalkViews.{CanRun, GoesTo, progress, after_in, traced_in, followed}
 use Rattle.month_trace.proofs.OperationLemmas.{none_there}

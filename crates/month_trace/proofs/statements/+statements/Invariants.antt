@@ -1,7 +1,7 @@
 use Rattle.std.proofs.Common.{◌≡◌, ◌+◌, ◌*◌, ◌^◌, ◌≤◌, drop}
 use Rattle.pap_tree.specs.Flowchart.{body_of, stmt_then, done}
 use Rattle.pap_tree.specs.Statements.{written}
-use Rattle.month_trace.specs.private.ValueViews.{values_in}
+use Rattle.run_values.specs.private.ValueViews.{values_in}
 use Rattle.month_trace.specs.private.WalkViews.{CanRun, after_in, traced_in, followed}
 use Rattle.month_trace.proofs.statements.+statements.Given as goal
 

@@ -1,0 +1,3 @@
+pub mod NumberedValues
+pub mod MethodBodies
+pub mod private
