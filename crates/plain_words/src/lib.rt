@@ -38,6 +38,7 @@ mod table_row;
 mod tags;
 mod tokens;
 mod toml_causes;
+mod toml_lines;
 mod value_word;
 
 pub use counting::position;

@@ -2,6 +2,7 @@
 use crate::counting::line_start;
 use crate::encoding::{is_utf16, stray_byte};
 use crate::quotes::first_line;
+use crate::toml_lines::write_line_cause;
 use std::alloc::AllocError;
 
 /// Appends why a text isn't TOML from a byte on, where that shows.
@@ -18,37 +19,11 @@ pub(crate) fn write_cause(told: &mut String, limits: &[u8], at: usize) -> Result
             ", since the byte 0x{byte:02x} stands there: save the file in UTF-8"
         );
     }
-    if has_decimal_comma(line_at(limits, at)) {
-        return told.push_str(
-            ": a decimal stands in quotation marks with a point, as high = \"9.5\"",
-        );
-    }
-    Ok(())
+    write_line_cause(told, line_at(limits, at))
 }
 
 /// The line of a text in which a byte stands.
 fn line_at(text: &[u8], at: usize) -> &[u8] {
     let start = line_start(text.get(..at).unwrap_or(text));
     first_line(text.get(start..).unwrap_or(&[]))
-}
-
-/// Whether a line has, behind its `=`, a comma between two digits.
-fn has_decimal_comma(line: &[u8]) -> bool {
-    let Some(equals) = line.iter().position(|byte| *byte == b'=') else {
-        return false;
-    };
-    for i in equals..line.len() {
-        if begins_with_decimal(&line[i..]) {
-            return true;
-        }
-    }
-    false
-}
-
-/// Whether a text begins with a digit, a comma and a digit.
-fn begins_with_decimal(text: &[u8]) -> bool {
-    match text {
-        [first, b',', second, ..] => first.is_ascii_digit() && second.is_ascii_digit(),
-        _ => false,
-    }
 }
