@@ -1,0 +1,3 @@
+pub mod EntryFaults
+pub mod FileFaults
+pub mod private
