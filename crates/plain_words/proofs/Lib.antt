@@ -1,4 +1,5 @@
 mod Besides
 pub mod Laws
+mod RangePlaces
 mod Shown
 mod StopLemmas

@@ -1,5 +1,5 @@
 -- In which file of a plan a refusal stands, at which byte where its place is pinned to one, and how its words end.
-use Rattle.std.specs.Prelude.{◌≡◌, ℕ, List, ◌++◌, codes, map, Some, None, IfSome, IsTrue, ⊤}
+use Rattle.std.specs.Prelude.{◌≡◌, ℕ, List, ◌++◌, codes, map, Option, Some, None, IfSome, IsTrue, ⊤}
 use Rattle.pap_reader.specs.declared.fault.Which.{Which}
 use Rattle.pap_reader.specs.declared.fault.Which.TheVariants as which
 use Rattle.pap_reader.specs.declared.fault.ReadFault.{ReadFault}
@@ -75,6 +75,10 @@ pub record BeginsAtRefusal (files : PlanFiles) (refusal : PlanRefusal) (words : 
   pub is : IsPlaceOf files.plan.bytes refusal place
   pub begins : BeginsAt files place words
   pub helps : IfSome (help_of refusal) (λ help. EndsWith (codes "; " ++ help) words)
+
+-- the words begin with a place in the range file, and go on with a reason
+abbrev pub BeginsInRanges : PlanFiles → List ℕ → Type 0
+BeginsInRanges files words = (at : Option ℕ) × BeginsAt files (in_ranges at) words
 
 -- what is said of a refused plan: one line that begins with the place of the refusal in the file in which it stands,
 -- and goes on with a reason

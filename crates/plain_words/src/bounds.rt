@@ -38,24 +38,6 @@ pub(crate) fn write_fault(
     Ok(BoundFault { key, help })
 }
 
-/// Whether an entry has bounds, and they keep their rule.
-pub(crate) fn are_sound(entry: &Table) -> bool {
-    let Some(low) = bound_at(entry, "low") else {
-        return false;
-    };
-    let Some(high) = bound_at(entry, "high") else {
-        return false;
-    };
-    match places_at(entry) {
-        Some(places) if places <= MOST_PLACES => {
-            low.compare(high) != Ordering::Greater
-                && is_kept_at(low, places)
-                && is_kept_at(high, places)
-        }
-        _ => false,
-    }
-}
-
 /// Appends what is wrong with the bounds of an input's entry.
 pub(crate) fn write_bounds_fault(
     told: &mut String,

@@ -1,6 +1,6 @@
 //! The lines of a range file's entries and of their keys.
-use crate::section::Section;
 use pap_tree::is_word;
+use range_faults::Section;
 
 /// In which table of a range file a line stands.
 #[derive(Clone, Copy)]
@@ -15,7 +15,7 @@ enum Within {
     Other,
 }
 
-/// The byte of an entry: of its heading, as `[input.RE4]` or `[input."R 4"]`, of its line below the heading `[input]`, or of its line
+/// The byte of an entry: of its heading, as `[input.RE4]`, `[input."R 4"]` or `[[input.RE4]]`, of its line below the heading `[input]`, or of its line
 /// `input.RE4 = ..` before all headings.
 pub(crate) fn entry_byte(limits: &[u8], section: Section, entry: &str) -> Option<usize> {
     let name = section.name().as_bytes();
@@ -100,6 +100,8 @@ fn behind_entry<'a>(
 fn entry_key<'a>(line: &'a [u8], within: Within, section: &[u8]) -> Option<&'a [u8]> {
     if let Some(heading) = line.strip_prefix(b"[") {
         return heading
+            .strip_prefix(b"[")
+            .unwrap_or(heading)
             .trim_ascii_start()
             .strip_prefix(section)?
             .strip_prefix(b".");
