@@ -1,6 +1,6 @@
 -- What is told behind a refusal.
-use Rattle.std.proofs.Common.{◌≡◌, ◌≢◌, ℕ, ◌<◌, List, [], ◌∷◌, ◌++◌, length, Option, Some, None, Result, Ok, Err, map, drop, refl, sym, ap, subst, ◌∙◌}
-use Rattle.std.specs.Prelude.{All, IfOk, IfSome, option_map, slice_get, string_bytes, String}
+use Rattle.std.proofs.Common.{◌≡◌, ◌≢◌, ℕ, ◌<◌, false, List, [], ◌∷◌, ◌++◌, length, Option, Some, None, Result, Ok, Err, map, drop, refl, sym, ap, subst, ◌∙◌}
+use Rattle.std.specs.Prelude.{All, IfOk, IfSome, MatchBool, option_map, slice_get, string_bytes, String}
 use Rattle.std.specs.declared.alloc.AllocError.{AllocError}
 use Rattle.std.specs.declared.alloc.Global.{Global}
 use Rattle.std.proofs.lemmas.List.{map-append}
@@ -31,7 +31,7 @@ use Rattle.plan_text.specs.declared.fault.Spot.{Spot}
 use Rattle.plan_text.specs.declared.fault.PlanFault.TheVariants as texts
 use Rattle.plan_text.proofs.Laws.{one_plan, never_both}
 use Rattle.diagnostics.specs.FaultLines.{IsPlanLine, TellsEach}
-use Rattle.diagnostics.specs.FurtherFaults.{AreAllFaults, AreLimitRefusals, AreTextRefusals, AreTypeRefusals, TellsFaults}
+use Rattle.diagnostics.specs.FurtherFaults.{AreAllFaults, AreLimitRefusals, AreTextRefusals, AreTypeRefusals, TellsEntryFaults, TellsFaults, TellsStage, TellsStageFaults, is_of_entries}
 use Rattle.diagnostics.specs.Operands.{TellsOperands}
 use Rattle.diagnostics.specs.private.StageViews.{AreFaultsBeside}
 use Rattle.diagnostics.proofs.FaultLaws.{first_answered}
@@ -233,14 +233,20 @@ beside_found plan limits f all read h = record { flowchart = f; ranges = h.0; re
 
 -- ---- the lines
 
-pub tells_faults : (files : PlanFiles) (r : PlanRefusal) (further told : List PlanRefusal) (lines operands text : List ℕ) → told ≡ further
-    → AreAllFaults files.plan.bytes files.ranges.bytes r (r ∷ further) → TellsEach (IsPlanLine files) (r ∷ told) lines
+pub stage_told : (files : PlanFiles) (r : PlanRefusal) (further told : List PlanRefusal) (text : List ℕ) → is_of_entries r ≡ false → told ≡ further
+    → AreAllFaults files.plan.bytes files.ranges.bytes r (r ∷ further) → TellsEach (IsPlanLine files) (r ∷ told) text → TellsStage files r text
+stage_told files r further told text no same all h =
+    subst (λ b. MatchBool b (TellsEntryFaults files text) (TellsStageFaults files r text)) (sym no) (record {
+      further = further;
+      are = all;
+      tells = subst (λ l. TellsEach (IsPlanLine files) (r ∷ l) text) same h;
+    })
+
+pub tells_faults : (files : PlanFiles) (r : PlanRefusal) (lines operands text : List ℕ) → TellsStage files r lines
     → TellsOperands files.plan.bytes files.ranges.bytes r operands → text ≡ lines ++ operands → TellsFaults files r text
-tells_faults files r further told lines operands text same all h known is = record {
-  further = further;
-  are = all;
+tells_faults files r lines operands text h known is = record {
   lines = lines;
-  tells = subst (λ l. TellsEach (IsPlanLine files) (r ∷ l) lines) same h;
+  tells = h;
   operands = operands;
   known = known;
   is = is;

@@ -1,3 +1,4 @@
+mod EntryLemmas
 mod FaultLaws
 mod FindLemmas
 mod FurtherLemmas

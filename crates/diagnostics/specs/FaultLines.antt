@@ -3,10 +3,11 @@ use Rattle.std.specs.Prelude.{◌≡◌, ℕ, ◌-◌, nat_lt, if◌then◌else�
 use Rattle.std.specs.List.{flat_map, AllZip}
 use Rattle.std.specs.Fmt.{decimal}
 use Rattle.pap_plan.specs.declared.refusal.PlanRefusal.{PlanRefusal}
+use Rattle.range_faults.specs.declared.fault.EntryFault.{EntryFault}
 use Rattle.plain_words.specs.declared.state.RunReason.{RunReason}
 use Rattle.plain_words.specs.Lines.{IsOneLine}
 use Rattle.plain_words.specs.Places.{PlanFiles}
-use Rattle.plain_words.specs.Refusals.{BeginsAtRefusal}
+use Rattle.plain_words.specs.Refusals.{BeginsAtRefusal, BeginsInRanges}
 use Rattle.plain_words.specs.States.{SaysState}
 
 -- so many faults are told, each in a line
@@ -31,6 +32,11 @@ pub record TellsEach {A : Type 0} (Says : A → List ℕ → Type 0) (faults : L
 pub record IsPlanLine (files : PlanFiles) (refusal : PlanRefusal) (words : List ℕ) : Type 0 where
   pub line : IsOneLine words
   pub begins : BeginsAtRefusal files refusal words
+
+-- the words say in one line, which begins with a place in the range file, what is wrong with a key of it
+pub record IsEntryLine (files : PlanFiles) (fault : EntryFault) (words : List ℕ) : Type 0 where
+  pub line : IsOneLine words
+  pub begins : BeginsInRanges files words
 
 -- the words say in one line why a run of these files' plan has no inputs
 pub record IsStateLine (files : PlanFiles) (reason : RunReason) (words : List ℕ) : Type 0 where

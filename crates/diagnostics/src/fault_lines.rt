@@ -57,7 +57,7 @@ pub fn state_lines(
 }
 
 /// The first of some faults, at most so many.
-fn front<T>(faults: &[T], most: usize) -> &[T]
+pub(crate) fn front<T>(faults: &[T], most: usize) -> &[T]
     ensures first { result.now ≡ take most faults.now }
     ensures fewer { length result.now ≤ length faults.now }
 {
@@ -69,7 +69,7 @@ fn front<T>(faults: &[T], most: usize) -> &[T]
 }
 
 /// Appends words as a line.
-fn put_line(text: &mut String, words: &str) -> Result<(), AllocError>
+pub(crate) fn put_line(text: &mut String, words: &str) -> Result<(), AllocError>
     ensures { OnOk result
         (string_bytes text.new ≡ string_bytes text.old ++ (words.now ++ 10 ∷ [])) }
 {
@@ -78,7 +78,7 @@ fn put_line(text: &mut String, words: &str) -> Result<(), AllocError>
 }
 
 /// Appends how many faults aren't told, where there are any.
-fn put_more(text: &mut String, more: usize) -> Result<(), AllocError>
+pub(crate) fn put_more(text: &mut String, more: usize) -> Result<(), AllocError>
     ensures { OnOk result (string_bytes text.new ≡ string_bytes text.old ++ more_line more) }
 {
     if more == 0 {

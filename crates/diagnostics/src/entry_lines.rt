@@ -1,0 +1,53 @@
+//! All faults of a range file's entries, a line each.
+ghost use Rattle.std.specs.Prelude.{IfOk};
+ghost use Rattle.std.specs.String.{string_bytes};
+ghost use Rattle.toml.specs.View.{table_view};
+ghost use Rattle.plain_words.specs.Places.{files_of};
+ghost use Rattle.diagnostics.specs.FaultLines.{IsEntryLine, TellsEach};
+ghost use Rattle.diagnostics.specs.FurtherFaults.{TellsEntryFaults};
+ghost use Rattle.diagnostics.specs.private.StageViews.{HasTable};
+
+use crate::fault_lines::{MOST_TOLD, front, put_line, put_more};
+use plain_words::{TextFile, entry_words};
+use range_faults::{EntryFault, file_faults, read_table};
+use std::alloc::{AllocError, Global};
+use toml::Table;
+
+/// What is wrong with the entries of a range file that is TOML, in lines: the words of the first 20 faults, and then how many more there
+/// are. Fails only for lack of memory.
+pub(crate) fn entry_lines(
+    alloc: Global,
+    plan: TextFile<'_>,
+    limits: TextFile<'_>,
+) -> Result<String, AllocError>
+    requires { HasTable limits.bytes.now }
+    ensures { IfOk result
+        (λ text. TellsEntryFaults (files_of plan.entry limits.entry) (string_bytes text)) }
+{
+    let Some(table) = read_table(alloc, limits.bytes)? else {
+        unreachable!()
+    };
+    let faults = file_faults(alloc, &table)?;
+    lines_of(alloc, plan, limits, &table, &faults)
+}
+
+/// The words of the first 20 of some faults, and how many more there are.
+fn lines_of(
+    alloc: Global,
+    plan: TextFile<'_>,
+    limits: TextFile<'_>,
+    table: &Table,
+    faults: &[EntryFault],
+) -> Result<String, AllocError>
+    ensures { IfOk result (λ text. TellsEach (IsEntryLine (files_of plan.entry limits.entry))
+        faults.now (string_bytes text)) }
+{
+    let told = front(faults, MOST_TOLD);
+    let mut text = String::new(alloc);
+    for fault in told {
+        let words = entry_words(alloc, plan, limits, table, fault)?;
+        put_line(&mut text, &words)?;
+    }
+    put_more(&mut text, faults.len() - told.len())?;
+    Ok(text)
+}
