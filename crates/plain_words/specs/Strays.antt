@@ -1,8 +1,12 @@
 -- Where a tag stops being read since a value in it has a sign that would have to be escaped. Fronts of attributes, bytes of a
 -- value and their quotes are those that the reader of flowcharts knows.
-use Rattle.std.specs.Prelude.{◌≡◌, ℕ, ◌+◌, ◌⊎◌, Bool, true, false, ◌||◌, ◌&&◌, ◌==◌, List, [], ◌∷◌, length, drop}
+use Rattle.std.specs.Prelude.{◌≡◌, ℕ, ◌+◌, ◌⊎◌, Bool, true, false, not, ◌||◌, ◌&&◌, ◌==◌, List, [], ◌∷◌, length, drop}
 use Rattle.std.specs.Char.{is_ascii_alphabetic}
-use Rattle.pap_reader.specs.Bytes.{drop_while}
+use Rattle.std.specs.List.{take_while}
+use Rattle.std.specs.Option.{is_some}
+use Rattle.pap_tree.specs.Names.{is_word}
+use Rattle.pap_reader.specs.Bytes.{begins_with, drop_while}
+use Rattle.pap_reader.specs.Marks.{element_of}
 use Rattle.pap_reader.specs.Values.{IsByte, NoByte}
 use Rattle.pap_reader.specs.Tags.{Attribute, IsAttribute, IsFrontOf}
 use Rattle.plain_words.specs.Positions.{line_number}
@@ -32,11 +36,24 @@ pub record StopsInValue (tag : List ℕ) (quote : ℕ) (text left : List ℕ) : 
   pub opens : OpensValue (drop_while is_ascii_alphabetic inner) quote text
   pub stop : IsUnclosed quote text left
 
--- what is left of a value's text begins with a sign that would have to be escaped: a &, or a < in the line in which the text
--- begins, so that both have as many line feeds
+-- the byte behind a `<` begins what is no element: an end tag, a comment or the like, or an instruction as <?xml ?>
+abbrev pub is_no_element : ℕ → Bool
+is_no_element b = b == 47 || b == 33 || b == 63
+
+-- what stands behind a `<` goes on with it as a tag of the profile does: it begins with such a byte, or its first word is the name
+-- of an element
+abbrev pub goes_on_as_tag : List ℕ → Bool
+goes_on_as_tag inner = begins_with is_no_element inner || is_some (element_of (take_while is_word inner))
+
+-- a `<` that is left of a value's text, with what stands behind it, is meant as a sign: it stands in the line in which the text
+-- begins, so that both have as many line feeds, or in a later one, where it begins no tag
+abbrev pub is_less_sign : List ℕ → List ℕ → Bool
+is_less_sign text inner = line_number text == line_number inner || not (goes_on_as_tag inner)
+
+-- what is left of a value's text begins with a sign that would have to be escaped: a &, or a < that is meant as a sign
 abbrev pub begins_with_sign : List ℕ → List ℕ → Bool
 begins_with_sign text [] = false
-begins_with_sign text (b ∷ left) = b == 38 || (b == 60 && line_number text == line_number (b ∷ left))
+begins_with_sign text (b ∷ inner) = b == 38 || (b == 60 && is_less_sign text inner)
 
 -- a value of the tag stops being read at such a sign, with which the rest begins
 pub record IsStray (tag left : List ℕ) : Type 0 where

@@ -1,5 +1,7 @@
 //! Parts of a file as they are quoted.
-ghost use Rattle.std.specs.Prelude.{◌≤◌, length};
+ghost use Rattle.std.specs.Prelude.{◌≡◌, ◌≤◌, length};
+ghost use Rattle.std.specs.List.{prefix_len, take_while};
+ghost use Rattle.pap_tree.specs.Names.{is_word};
 
 use pap_tree::is_word;
 use std::alloc::AllocError;
@@ -59,10 +61,19 @@ fn numeral(text: &[u8]) -> &[u8] {
     &text[..count]
 }
 
-/// The word that begins a text.
-fn word(text: &[u8]) -> &[u8] {
-    let count = text.iter().take_while(|byte| is_word(**byte)).count();
-    &text[..count]
+/// The word that begins a text; nothing where none does.
+pub(crate) fn word(text: &[u8]) -> &[u8]
+    ensures { result.now ≡ take_while is_word text.now }
+{
+    text.split_at(word_len(text)).0
+}
+
+/// How many bytes of a word come first.
+fn word_len(text: &[u8]) -> usize
+    ensures count { result ≡ prefix_len is_word text.now }
+    ensures within { result ≤ length text.now }
+{
+    text.iter().take_while(|byte| is_word(**byte)).count()
 }
 
 /// The character that begins a text, with the bytes of UTF-8 that go on with it.

@@ -1,12 +1,13 @@
 //! Where a tag stops being read, and why.
 ghost use Rattle.std.specs.Prelude.{◌≡◌, ℕ, ◌≤◌, ◌<◌, ◌∷◌, List, length, MatchOption, IfSome};
+ghost use Rattle.pap_reader.specs.Bytes.{begins_with};
 ghost use Rattle.pap_reader.specs.Values.{NoByte};
-ghost use Rattle.plain_words.specs.Strays.{ReadsValue, begins_with_sign};
+ghost use Rattle.plain_words.specs.Strays.{ReadsValue, is_no_element, goes_on_as_tag, is_less_sign, begins_with_sign};
 ghost use Rattle.plain_words.specs.private.StopViews.{StopsAs};
 
 use crate::counting::line_number;
-use crate::quotes::{write_line, write_quoted};
-use pap_reader::{ValueFront, read_byte, read_value_front, split_letters};
+use crate::quotes::{word, write_line, write_quoted};
+use pap_reader::{Element, ValueFront, read_byte, read_value_front, split_letters};
 use std::alloc::AllocError;
 
 /// Where a text stops being a tag.
@@ -71,15 +72,46 @@ fn value_end(text: &[u8], quote: u8) -> &[u8]
     left
 }
 
-/// Whether what is left of a value's text begins with a sign that would have to be escaped: a `&`, or a `<` in the line in which the
-/// text begins.
+/// Whether what is left of a value's text begins with a sign that would have to be escaped: a `&`, or a `<` that is meant as a
+/// sign.
 pub(crate) fn begins_with_sign(text: &[u8], left: &[u8]) -> bool
     ensures { result ≡ begins_with_sign text.now left.now }
 {
     match left {
         [] => false,
-        [first, ..] => *first == b'&' || *first == b'<' && line_number(text) == line_number(left),
+        [first, inner @ ..] => *first == b'&' || *first == b'<' && is_less_sign(text, inner),
     }
+}
+
+/// Whether a `<` that is left of a value's text, with this behind it, is meant as a sign: it stands in the line in which the text
+/// begins, or it begins no tag.
+fn is_less_sign(text: &[u8], inner: &[u8]) -> bool
+    ensures { result ≡ is_less_sign text.now inner.now }
+{
+    line_number(text) == line_number(inner) || !goes_on_as_tag(inner)
+}
+
+/// Whether what stands behind a `<` goes on with it as a tag of the profile does, or a comment or the like.
+fn goes_on_as_tag(inner: &[u8]) -> bool
+    ensures { result ≡ goes_on_as_tag inner.now }
+{
+    begins_no_element(inner) || Element::named(word(inner)).is_some()
+}
+
+/// Whether what stands behind a `<` begins an end tag, a comment or the like, or an instruction as `<?xml ?>`.
+fn begins_no_element(inner: &[u8]) -> bool
+    ensures { result ≡ begins_with is_no_element inner.now }
+{
+    match inner {
+        [] => false,
+        [first, ..] => is_no_element(*first),
+    }
+}
+
+fn is_no_element(byte: u8) -> bool
+    ensures { result ≡ is_no_element byte }
+{
+    byte == b'/' || byte == b'!' || byte == b'?'
 }
 
 impl TagStop<'_> {
