@@ -7,12 +7,14 @@ ghost use Rattle.plain_words.specs.Refusals.{IsPlaceOfFault, IsPlaceOfExcess};
 ghost use Rattle.plain_words.specs.private.StopViews.{StopsAs};
 ghost use Rattle.plain_words.specs.private.FoundViews.{place_of, HasTag, IsExcessByte};
 
+use crate::comments::write_open_comment;
 use crate::counting::line_number;
 use crate::encoding::is_utf16;
 use crate::found::Found;
 use crate::misplaced::{Misplaced, misplaced_at};
 use crate::place::TextFile;
-use crate::quotes::{first_line, write_line, write_quoted};
+use crate::quotes::write_line;
+use crate::signs::other_space;
 use crate::stops::{TagStop, begins_with_sign, tag_stop};
 use crate::tags::write_attribute_fault;
 use pap_reader::{ReadFault, Which};
@@ -58,12 +60,8 @@ fn find_text(plan: TextFile<'_>, at: usize, told: &mut String) -> Result<Found, 
         write_line(told, text)?;
         return Ok(found.with_help(help));
     }
-    stop.write(told, line_before(plan.bytes, stop.left))?;
-    if stop.value.is_some() {
-        told.push_str(", in the tag ")?;
-        write_quoted(told, first_line(text), 0)?;
-    }
-    Ok(found.with_help(stop.help()))
+    stop.write(told, text, line_before(plan.bytes, stop.left))?;
+    Ok(found.with_help(stop.help(text)))
 }
 
 /// The line of a file in which begins what is left of it.
@@ -96,6 +94,7 @@ fn find_misplaced(plan: TextFile<'_>, at: usize, told: &mut String) -> Result<Fo
     let misplaced: Misplaced = misplaced_at(*told.allocator(), plan.bytes, at)?;
     misplaced.write(told, plan.bytes, at)?;
     write_line(told, text)?;
+    write_open_comment(told, plan.bytes.get(..at).unwrap_or(plan.bytes))?;
     let tag = Found::in_plan(Some(at));
     Ok(Found {
         also: misplaced.also(text),
@@ -125,6 +124,8 @@ fn find_attribute(plan: TextFile<'_>, at: usize, told: &mut String) -> Result<Fo
 fn text_help(text: &[u8]) -> Option<&'static str> {
     if text.starts_with(b"<!--") {
         Some("the comment has no end; write --> behind it")
+    } else if text.starts_with(b"<!-") {
+        Some("a comment begins with <!-- and ends with -->")
     } else if text.starts_with(b"<!") {
         Some("a plan has no DOCTYPE, CDATA or the like; take it out")
     } else if text.starts_with(b"<?") {
@@ -133,16 +134,31 @@ fn text_help(text: &[u8]) -> Option<&'static str> {
         )
     } else if text.starts_with(b"<") {
         None
-    } else if is_utf16(text) {
-        Some("the file is written in UTF-16, it seems; save it in UTF-8")
-    } else if text.starts_with(b"[input") || text.starts_with(b"[bind") || text.starts_with(b"#") {
+    } else if let Some(help) = other_file_help(text) {
+        Some(help)
+    } else if other_space(text).is_some() {
         Some(
-            "this is a range file, it seems; the flowchart's file comes first, then its range file",
+            "that is a no-break space or the like, which isn't white space here; write a blank in its place, or nothing",
         )
     } else {
         Some(
             "text outside of a tag stands in comments alone; write it as a comment, or as an attribute of a tag",
         )
+    }
+}
+
+/// What helps where a text isn't that of a flowchart's file, it seems.
+fn other_file_help(text: &[u8]) -> Option<&'static str> {
+    if is_utf16(text) {
+        Some("the file is written in UTF-16, it seems; save it in UTF-8")
+    } else if text.starts_with(b"[input") || text.starts_with(b"[bind") || text.starts_with(b"#") {
+        Some(
+            "this is a range file, it seems; the flowchart's file comes first, then its range file",
+        )
+    } else if text.starts_with(b"employee,") || text.starts_with(b"employee;") {
+        Some("this is a table of pay runs, it seems; write the flowchart's file in its place")
+    } else {
+        None
     }
 }
 

@@ -2,6 +2,7 @@
 ghost use Rattle.std.specs.Prelude.{IfOk};
 ghost use Rattle.plain_words.specs.private.FoundViews.{IsOfPlan};
 
+use crate::comments::write_open_comment;
 use crate::found::Found;
 use crate::nodes::write_node;
 use crate::place::place_text;
@@ -28,9 +29,8 @@ pub(crate) fn find_kind(
         TypeFault::Twice { name } => find_repeated(source, name, quote),
         TypeFault::Unknown { name, place } => find_unknown(source, name, place, quote),
         TypeFault::Kind { place } => find_mismatch(source, place, quote),
-        TypeFault::ConstantWritten { place } | TypeFault::NoMethod { place } => {
-            find_front(source, place, quote)
-        }
+        TypeFault::ConstantWritten { place } => find_front(source, place, quote),
+        TypeFault::NoMethod { place } => find_lost(source, place, quote),
         TypeFault::Value { name } => find_value(source, name, quote),
         TypeFault::Memory(_) => Err(AllocError),
     }
@@ -49,6 +49,15 @@ fn find_front(source: Source<'_>, place: &Place, quote: &mut String) -> Result<F
     write_statement(quote, source, &place.method, place.stmt, white)?;
     let at = statement_byte(source, &place.method, place.stmt, white);
     Ok(Found::in_plan(at))
+}
+
+/// Where the name of a method stands that isn't there; the statement is appended, and the comment that may hide it.
+fn find_lost(source: Source<'_>, place: &Place, quote: &mut String) -> Result<Found, AllocError>
+    ensures { IfOk result (λ found. IsOfPlan found) }
+{
+    let found = find_front(source, place, quote)?;
+    write_open_comment(quote, source.file.bytes)?;
+    Ok(found)
 }
 
 /// Where a name is declared for the second time; where it is for the first time is appended.
@@ -81,6 +90,7 @@ fn find_unknown(
     let at = found.unwrap_or(0);
     quote.push_str(", in ")?;
     write_statement(quote, source, &place.method, place.stmt, at)?;
+    write_open_comment(quote, source.file.bytes)?;
     let at = statement_byte(source, &place.method, place.stmt, at);
     Ok(Found::in_plan(at))
 }

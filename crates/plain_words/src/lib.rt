@@ -3,6 +3,7 @@
 
 mod bounds;
 mod circles;
+mod comments;
 mod counting;
 mod elements;
 mod encoding;
@@ -15,6 +16,7 @@ mod help;
 mod homes;
 mod kinds;
 mod lines;
+mod malformed;
 mod methods;
 mod misplaced;
 mod nodes;
@@ -28,6 +30,7 @@ mod ranges;
 mod reason;
 mod remedies;
 mod section;
+mod signs;
 mod sites;
 mod slips;
 mod state;

@@ -184,9 +184,7 @@ impl Misplaced {
                 "the file ends too early; an end tag or a needed element is missing"
             }
             Misplaced::Small => "write the names of elements in capitals",
-            Misplaced::Unknown => {
-                "there is no element of this name in the profile; for a loop write an EXECUTE for each turn, within IFs"
-            }
+            Misplaced::Unknown => unknown_help(element_name(text)),
             Misplaced::NoneOpen => "take it out, or write the start tag before it",
             Misplaced::Unclosed(_) => unclosed_help(text),
             Misplaced::UnclosedTag(_) => "it has nothing inside: end its tag with /> in place of >",
@@ -230,6 +228,24 @@ fn open_tag(alloc: Global, plan: &[u8], mark: Mark) -> Result<OpenTag, AllocErro
         name: String::from_utf8_lossy(alloc, name)?,
         line: line_number(plan.get(..mark.at).unwrap_or(plan)),
     })
+}
+
+/// What helps where no element has a name.
+fn unknown_help(name: &[u8]) -> &'static str {
+    match name {
+        b"ELSEIF" | b"ELSIF" | b"ELIF" => {
+            "there is no element of this name in the profile; for a further test write an IF in ELSE"
+        }
+        b"SWITCH" | b"CASE" | b"CHOOSE" | b"WHEN" | b"DEFAULT" | b"OTHERWISE" => {
+            "there is no element of this name in the profile; write an IF for each case, the next one in ELSE"
+        }
+        b"RETURN" | b"BREAK" | b"CONTINUE" => {
+            "there is no element of this name in the profile; put what isn't executed then into an IF"
+        }
+        _ => {
+            "there is no element of this name in the profile; for a loop write an EXECUTE for each turn, within IFs"
+        }
+    }
 }
 
 fn is_start_tag(text: &[u8]) -> bool {

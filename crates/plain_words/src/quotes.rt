@@ -76,8 +76,8 @@ fn word_len(text: &[u8]) -> usize
     text.iter().take_while(|byte| is_word(**byte)).count()
 }
 
-/// The character that begins a text, with the bytes of UTF-8 that go on with it.
-fn character(text: &[u8]) -> &[u8] {
+/// The character that begins a text, with the bytes of UTF-8 that go on with it; nothing of an empty text.
+pub(crate) fn character(text: &[u8]) -> &[u8] {
     let count = text
         .iter()
         .skip(1)

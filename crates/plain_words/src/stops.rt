@@ -6,7 +6,9 @@ ghost use Rattle.plain_words.specs.Strays.{ReadsValue, is_no_element, goes_on_as
 ghost use Rattle.plain_words.specs.private.StopViews.{StopsAs};
 
 use crate::counting::line_number;
-use crate::quotes::{word, write_line, write_quoted};
+use crate::malformed::malformed_at;
+use crate::quotes::{first_line, word, write_line, write_quoted};
+use crate::signs::has_other_quote;
 use pap_reader::{Element, ValueFront, read_byte, read_value_front, split_letters};
 use std::alloc::AllocError;
 
@@ -115,11 +117,15 @@ fn is_no_element(byte: u8) -> bool
 }
 
 impl TagStop<'_> {
-    /// Appends why a tag stops there, in this line of its file, and what stands there.
-    pub(crate) fn write(self, out: &mut String, line: usize) -> Result<(), AllocError> {
+    /// Appends why the tag with which a text begins stops there, in this line of its file, and what stands there.
+    pub(crate) fn write(
+        self,
+        out: &mut String,
+        text: &[u8],
+        line: usize,
+    ) -> Result<(), AllocError> {
         let Some(front) = self.value else {
-            out.push_str("the tag isn't well formed")?;
-            return write_line(out, self.left);
+            return malformed_at(text, self.left).write(out, text, self.left);
         };
         out.push_str("the value of the attribute ")?;
         write_quoted(out, front.name, 0)?;
@@ -132,25 +138,42 @@ impl TagStop<'_> {
             }
             Some(b'<') => out.push_str(" has a < that isn't escaped")?,
             Some(_) => out.push_str(" has a & that begins no escape")?,
-            None => out.push_str(" has no closing quotation mark")?,
+            None => out.push_str(" has no closing quotation mark before the file ends")?,
         }
-        write_line(out, self.left)
+        write_line(out, self.left)?;
+        out.push_str(", in the tag ")?;
+        write_quoted(out, first_line(text), 0)
     }
 
-    /// What helps there.
-    pub(crate) fn help(self) -> &'static str {
+    /// What helps there, in the tag with which a text begins.
+    pub(crate) fn help(self, text: &[u8]) -> &'static str {
         let Some(front) = self.value else {
-            return "a tag is < or </, the element's name, attributes as NAME=\"VALUE\" with a blank before each, and > or />";
+            return malformed_at(text, self.left).help();
         };
         match self.left.first() {
             Some(b'<') if !begins_with_sign(front.text, self.left) => {
-                "close the value with the quotation mark that opens it; in a value that goes over several lines a < is written &lt;"
+                typographic_help(front).unwrap_or(
+                    "close the value with the quotation mark that opens it; in a value that goes over several lines a < is written &lt;",
+                )
             }
             Some(b'<') => "write &lt; for a < in a value",
             Some(_) => {
                 "write &amp; for a & in a value; the escapes are &lt; &gt; &amp; &quot; &apos; and &#N; with N from 1 to 127"
             }
-            None => "close the value with the quotation mark that opens it",
+            None => typographic_help(front).unwrap_or(
+                "close the value with the quotation mark that opens it",
+            ),
         }
+    }
+}
+
+/// What helps where a value that isn't closed has a typographic quotation mark in its first line.
+fn typographic_help(front: ValueFront<'_>) -> Option<&'static str> {
+    if has_other_quote(first_line(front.text)) {
+        Some(
+            "its closing quotation mark is a typographic one, it seems; write the one that opens the value",
+        )
+    } else {
+        None
     }
 }
