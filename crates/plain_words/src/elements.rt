@@ -14,7 +14,7 @@ use crate::found::Found;
 use crate::misplaced::{Misplaced, misplaced_at};
 use crate::place::TextFile;
 use crate::quotes::write_line;
-use crate::signs::other_space;
+use crate::lookalikes::other_space;
 use crate::stops::{TagStop, begins_with_sign, tag_stop};
 use crate::tags::write_attribute_fault;
 use pap_reader::{ReadFault, Which};

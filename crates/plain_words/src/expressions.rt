@@ -12,10 +12,11 @@ use crate::sites::{
 };
 use crate::slips::{Slip, comma_slip, slip_at};
 use crate::statements::statement_text;
-use crate::tokens::{Stop, name_at};
+use crate::tokens::{Form, Stop, name_at};
 use expr_tokens::{Keyword, Sign, Token, read_tokens};
 use pap_expr::{ExprFault, parse_constant};
 use pap_plan::Spot;
+use pap_reader::RawStmt;
 use pap_tree::{Binary, Name};
 use std::alloc::{AllocError, Global};
 
@@ -36,7 +37,8 @@ pub(crate) fn find_expression(
             let text = faulty_statement(*quote.allocator(), source, method, *stmt)?;
             write_token(quote, token_at(text, at))?;
             write_statement(quote, source, method, *stmt, at)?;
-            let help = write_slip(quote, source, fault, text, at)?;
+            let form = form_of(source, method, *stmt);
+            let help = write_slip(quote, source, fault, form, text, at)?;
             let at = statement_byte(source, method, *stmt, at);
             Ok(Found::in_plan(at).with_help(help))
         }
@@ -56,6 +58,14 @@ fn place_of(fault: &ExprFault) -> Option<usize> {
         | ExprFault::Number { at }
         | ExprFault::Deep { at } => Some(*at),
         ExprFault::Memory => None,
+    }
+}
+
+/// As what the text of a statement is read.
+fn form_of(source: Source<'_>, method: &Name, number: u32) -> Form {
+    match statement_of(source, method, number) {
+        Some(RawStmt::Eval { .. }) => Form::Assignment,
+        _ => Form::Test,
     }
 }
 
@@ -90,7 +100,7 @@ fn find_literal(
     let element = found.group.name();
     let name = found.declared.name;
     write!(quote, " of the {element} {name}")?;
-    let help = write_slip(quote, source, fault, text, at)?;
+    let help = write_slip(quote, source, fault, Form::Literal, text, at)?;
     let at = literal_byte(source, found, at);
     Ok(Found::in_plan(at).with_help(help))
 }
@@ -112,11 +122,12 @@ fn write_slip(
     quote: &mut String,
     source: Source<'_>,
     fault: &ExprFault,
+    form: Form,
     text: &[u8],
     at: usize,
 ) -> Result<&'static str, AllocError> {
     let tokens = read_tokens(*quote.allocator(), text)?;
-    let stop = Stop::new(text, &tokens, at);
+    let stop = Stop::new(form, text, &tokens, at);
     match slip_of(fault, &stop) {
         Some(slip) => {
             slip.write(quote, source)?;

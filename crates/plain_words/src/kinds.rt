@@ -90,9 +90,28 @@ fn find_unknown(
     let at = found.unwrap_or(0);
     quote.push_str(", in ")?;
     write_statement(quote, source, &place.method, place.stmt, at)?;
+    write_known(quote, source, name)?;
     write_open_comment(quote, source.file.bytes)?;
     let at = statement_byte(source, &place.method, place.stmt, at);
     Ok(Found::in_plan(at))
+}
+
+/// Appends what a name is that isn't declared, where that is known.
+fn write_known(quote: &mut String, source: Source<'_>, name: &Name) -> Result<(), AllocError> {
+    let methods = &source.elements.methods;
+    match name.bytes() {
+        b"ZERO" | b"ONE" | b"TEN" => write!(quote, "; write `BigDecimal.{name}`"),
+        b"true" | b"false" => {
+            quote.push_str("; there is no true or false: a test compares, as J == 1")
+        }
+        _ if methods.iter().any(|method| method.name == *name) => {
+            write!(
+                quote,
+                "; {name} is a METHOD, which `<EXECUTE method=\"{name}\"/>` executes"
+            )
+        }
+        _ => Ok(()),
+    }
 }
 
 /// Where a node stands whose operands or whose value are of a wrong kind; its spelling and its statement are appended.

@@ -2,6 +2,9 @@
 #![tactic(auto)]
 
 mod bounds;
+mod brackets;
+mod calls;
+mod changes;
 mod circles;
 mod comments;
 mod counting;
@@ -14,13 +17,19 @@ mod found;
 mod group;
 mod help;
 mod homes;
+mod java_words;
 mod kinds;
 mod lines;
+mod literals;
+mod lookalikes;
 mod malformed;
 mod methods;
+mod misfits;
 mod misplaced;
 mod nodes;
+mod number_slip;
 mod numerals;
+mod operand_kinds;
 mod ordinal;
 mod place;
 mod plan;

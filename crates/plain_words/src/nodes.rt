@@ -1,10 +1,13 @@
 //! The nodes of a statement's expression by their numbers.
+use crate::misfits::write_misfit;
+use crate::operand_kinds::{is_comparison, is_logical, kind_of, takes_operands};
 use crate::quotes::write_quoted;
-use crate::remedies::{Role, kind_of, write_remedy};
+use crate::remedies::{Role, write_remedy};
 use crate::sites::{Source, declaration_of, statement_of, write_statement};
 use pap_expr::{ExprFault, Stretch, parse_assign_placed, parse_expr_placed};
 use pap_reader::RawStmt;
 use pap_tree::{Binary, Call, Expr, Kind, Name, Place, Unary, find_node, print_expr};
+use pap_types::NodeKind;
 use std::alloc::{AllocError, Global};
 
 /// What is said of a node of an expression.
@@ -75,7 +78,9 @@ fn write_spelling(
     let is_part = find_node(&read.expression, number.saturating_add(1)).is_some();
     let stretch = read.nodes.get(number as usize);
     let mut remedy = String::new(alloc);
-    if !is_part {
+    if !takes_operands(source, node) {
+        write_misfit(&mut remedy, source, node)?;
+    } else if !is_part {
         write_remedy(&mut remedy, source, read.role, node)?;
     }
     Ok(Some(Node {
@@ -159,30 +164,32 @@ fn target_words(kind: Kind) -> &'static str {
 /// Which operands a node takes, or what it is, where that is what doesn't go together.
 fn taken_here(source: Source<'_>, role: Role, is_part: bool, node: &Expr) -> &'static str {
     match (node, role) {
-        (Expr::Point(_), _) => "it is a number with a point",
         (Expr::Call(Call::CompareTo, _, _), Role::Test) if !is_part => {
             "compareTo takes two values of BigDecimal and gives -1, 0 or 1, which isn't a test yet: compare it with 0, as in A.compareTo(B) > 0"
         }
+        _ if !takes_operands(source, node) => taken_kinds(source, node),
         _ => match kind_of(source, node) {
             Some(kind) => own_words(kind),
-            None => taken_kinds(node),
+            None => taken_kinds(source, node),
         },
     }
 }
 
-/// Of which type a name or another expression is.
-fn own_words(kind: Kind) -> &'static str {
+/// Of which kind a name or another expression is.
+fn own_words(kind: NodeKind) -> &'static str {
     match kind {
-        Kind::Int => "it is an int",
-        Kind::Long => "it is a long",
-        Kind::Big => "it is a BigDecimal",
-        Kind::Factor => "it is a double, which stands within BigDecimal.valueOf(..) alone",
-        Kind::Table => "it is a table, of which an item is taken as T[I]",
+        NodeKind::Int => "it is an int",
+        NodeKind::Long => "it is a long",
+        NodeKind::Big => "it is a BigDecimal",
+        NodeKind::Truth => "it is a test",
+        NodeKind::Fraction => "it is a number with a point",
+        NodeKind::Factor => "it is a double, which stands within BigDecimal.valueOf(..) alone",
+        NodeKind::Table => "it is a table, of which an item is taken as T[I]",
     }
 }
 
 /// Which operands a node takes.
-fn taken_kinds(node: &Expr) -> &'static str {
+fn taken_kinds(source: Source<'_>, node: &Expr) -> &'static str {
     match node {
         Expr::Int(_)
         | Expr::Long(_)
@@ -196,7 +203,9 @@ fn taken_kinds(node: &Expr) -> &'static str {
         }
         Expr::ValueOfScaled(..) | Expr::NewInt(_) => "it takes an int or a long",
         Expr::Unary(op, _) => taken_by_unary(*op),
-        Expr::Binary(op, _, _) => taken_by_operator(*op),
+        Expr::Binary(op, left, right) => {
+            taken_by_operator(*op, kind_of(source, left), kind_of(source, right))
+        }
         Expr::Call(Call::DivideExact, _, _) => {
             "divide with no scale takes a BigDecimal and a CONSTANT, or BigDecimal.valueOf(n) of an int literal, that divides a power of ten; else write the scale and the rounding mode, as in A.divide(B, 2, BigDecimal.ROUND_DOWN)"
         }
@@ -218,19 +227,33 @@ fn taken_by_unary(op: Unary) -> &'static str {
     }
 }
 
-fn taken_by_operator(op: Binary) -> &'static str {
-    match op {
-        Binary::Mul | Binary::Div | Binary::Rem | Binary::Plus | Binary::Sub => {
-            "the operator takes whole numbers (int, long); of values of BigDecimal write A.add(B), subtract, multiply or divide"
-        }
-        Binary::Less
-        | Binary::LessEq
-        | Binary::More
-        | Binary::MoreEq
-        | Binary::Same
-        | Binary::Differs => {
-            "the comparison takes whole numbers (int, long); of values of BigDecimal write A.compareTo(B) and compare that with 0"
-        }
-        Binary::And | Binary::Or => "&& and || take tests on both sides",
+/// Which operands an operator takes, where these are of such kinds.
+fn taken_by_operator(
+    op: Binary,
+    first: Option<NodeKind>,
+    second: Option<NodeKind>,
+) -> &'static str {
+    if is_logical(op) {
+        "&& and || take tests on both sides"
+    } else if !is_comparison(op)
+        && (is_either(NodeKind::Factor, first, second)
+            || is_either(NodeKind::Fraction, first, second))
+    {
+        "the operator takes whole numbers (int, long); a double or a number with a point stands within BigDecimal.valueOf(..)"
+    } else if !is_comparison(op) {
+        "the operator takes whole numbers (int, long); of values of BigDecimal write A.add(B), subtract, multiply or divide"
+    } else if is_either(NodeKind::Truth, first, second) {
+        "a comparison takes values and no tests; tests are joined by &&, which is &amp;&amp; in the file, or by ||"
+    } else if is_either(NodeKind::Factor, first, second) {
+        "a double is compared with a literal of at most three digits after its point"
+    } else if is_either(NodeKind::Fraction, first, second) {
+        "a number with a point is compared with the name of a double, and an int or a long with a whole number"
+    } else {
+        "the comparison takes whole numbers (int, long); of values of BigDecimal write A.compareTo(B) and compare that with 0"
     }
+}
+
+/// Whether one of two kinds is this.
+fn is_either(kind: NodeKind, first: Option<NodeKind>, second: Option<NodeKind>) -> bool {
+    first == Some(kind) || second == Some(kind)
 }

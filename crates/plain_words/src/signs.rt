@@ -1,45 +1,145 @@
-//! Signs that look like one that a plan's file has, and aren't.
-use crate::quotes::character;
+//! Signs that an expression doesn't have, or not there.
+use crate::calls::full_call_help;
+use crate::slips::NUMBER;
+use crate::tokens::{Stop, begins_operand, ends_operand, goes_on_with_word};
+use expr_tokens::{Sign, Token};
 
-/// The most bytes of a character in UTF-8.
-const LONGEST: usize = 4;
-
-/// Whether a text begins with a typographic quotation mark, or with an accent that is typed in its place.
-pub(crate) fn begins_with_other_quote(text: &[u8]) -> bool {
-    match first_char(text) {
-        Some(sign) => matches!(
-            sign,
-            '\u{2018}'..='\u{201F}' | '\u{2039}' | '\u{203A}' | '\u{AB}' | '\u{BB}' | '\u{B4}' | '`'
-        ),
-        None => false,
-    }
-}
-
-/// Whether such a mark stands in a text.
-pub(crate) fn has_other_quote(text: &[u8]) -> bool {
-    for at in 0..text.len() {
-        if begins_with_other_quote(text.get(at..).unwrap_or(&[])) {
-            return true;
+/// What is written for a character that isn't of ASCII, as a value in the file has it.
+pub(crate) fn plain_sign(sign: char) -> &'static str {
+    match sign {
+        '\u{2010}'..='\u{2015}' | '\u{2212}' => "write - for it",
+        '\u{2018}'..='\u{201F}' | '\u{AB}' | '\u{BB}' => {
+            "write a plain quotation mark for it, as &quot;"
         }
+        '\u{A0}' | '\u{2007}' | '\u{2009}' | '\u{202F}' => {
+            "write a space for it, or nothing between the digits of a number"
+        }
+        '×' => "write * for it",
+        '÷' => "write / for it",
+        '≤' => "write &lt;= for it",
+        '≥' => "write &gt;= for it",
+        '≠' => "write != for it",
+        _ =>
+            "an expression is written in ASCII, and a name has the letters A to Z and a to z, digits and _",
     }
-    false
 }
 
-/// What the space is called with which a text begins, where it isn't white space in a plan's file.
-pub(crate) fn other_space(text: &[u8]) -> Option<&'static str> {
-    match first_char(text)? {
-        '\u{A0}' | '\u{2007}' | '\u{202F}' => Some("a no-break space"),
-        '\u{200B}'..='\u{200D}' | '\u{2060}' | '\u{FEFF}' => Some("a space without width"),
-        '\u{2000}'..='\u{200A}' | '\u{3000}' => Some("a space of another width"),
+/// What helps at a sign that an expression doesn't have there.
+pub(crate) fn sign_help(stop: &Stop<'_>) -> Option<&'static str> {
+    if is_behind_bare_point(stop) {
+        return Some(POINT);
+    }
+    match stop.byte()? {
+        b'&' => Some("and is written with two signs, which are &amp;&amp; in the file"),
+        b'|' => Some("or is written with two signs, as ||"),
+        b'>' if stop.byte_before() == Some(b'<') => Some("write != for <>"),
+        b'=' if stop.byte_behind() == Some(b'>') => Some("write &gt;= for =>"),
+        b'=' if stop.byte_behind() == Some(b'<') => Some("write &lt;= for =<"),
+        b'+' if stop.byte_before() == Some(b'+') || stop.byte_behind() == Some(b'+') => {
+            Some("there is no ++: write J = J + 1 in an EVAL of its own")
+        }
+        b';' => Some("a ; stands at the end of an EVAL alone"),
+        b'\'' | b'_' if is_between_digits(stop) => Some(NUMBER),
+        b'\'' => Some("write a double quotation mark for ', which is &quot; in the file"),
+        b':' if stop.byte_behind() == Some(b'=') => {
+            Some("write = for := behind the name of an EVAL, and == in a comparison")
+        }
+        b'^' => Some(
+            "there is no power: write a product, as J * J, or A.multiply(A) of a value of BigDecimal",
+        ),
+        b'/' | b'*' if stop.byte_before() == Some(b'/') => Some(COMMENT),
+        b'/' if is_comment(stop.byte_behind()) => Some(COMMENT),
+        b'#' => Some(COMMENT),
+        b'.' if is_beside_digit(stop) => Some(POINT),
+        b',' => full_call_help(stop),
         _ => None,
     }
 }
 
-/// The character with which a text begins, where it is one of UTF-8.
-fn first_char(text: &[u8]) -> Option<char> {
-    let head = &text[..text.len().min(LONGEST)];
-    match str::from_utf8(character(head)) {
-        Ok(character) => character.chars().next(),
-        Err(_) => None,
+/// How a number with a point is written.
+const POINT: &str = "a number with a point has digits before and behind it, as 0.5";
+
+/// Where a comment is written.
+const COMMENT: &str =
+    "an expression has no comment: write it before the tag, in <!-- and -->, or leave it out";
+
+/// Whether a `/` with this byte behind it begins a comment.
+fn is_comment(behind: Option<u8>) -> bool {
+    behind == Some(b'/') || behind == Some(b'*')
+}
+
+/// Whether a number with no digit behind its point stands right before.
+fn is_behind_bare_point(stop: &Stop<'_>) -> bool {
+    stop.has_mark_before(1, Sign::Dot)
+        && matches!(stop.token_before(2), Some(Token::Int(_) | Token::Long(_)))
+}
+
+/// Whether a digit stands right before or behind.
+fn is_beside_digit(stop: &Stop<'_>) -> bool {
+    is_digit(stop.byte_before()) || is_digit(stop.byte_behind())
+}
+
+/// Whether digits stand right before and behind.
+fn is_between_digits(stop: &Stop<'_>) -> bool {
+    is_digit(stop.byte_before()) && is_digit(stop.byte_behind())
+}
+
+fn is_digit(byte: Option<u8>) -> bool {
+    match byte {
+        Some(byte) => byte.is_ascii_digit(),
+        None => false,
     }
+}
+
+/// What helps where an operand stands right behind another.
+pub(crate) fn operand_help(stop: &Stop<'_>) -> Option<&'static str> {
+    let token = stop.token()?;
+    let before = stop.token_before(1)?;
+    if !ends_operand(before) && lacks_operand(before, token) {
+        return Some("a value is missing before it");
+    }
+    if !ends_operand(before) || !begins_operand(token) {
+        return None;
+    }
+    Some(match (before, token) {
+        (Token::Name(_), Token::Name(_)) if goes_on_with_word(stop) => {
+            "a name has at most 32 letters, digits and _"
+        }
+        (Token::Name(_), Token::Mark(Sign::Open)) => {
+            "there are no functions: a method stands behind a value, as in A.max(B), and an EXECUTE executes a METHOD"
+        }
+        _ => "an operator is missing before it",
+    })
+}
+
+/// Whether a token that stands behind another goes on behind an operand alone, which is missing then.
+fn lacks_operand(before: Token, token: Token) -> bool {
+    let waits = match before {
+        Token::Operator(_) => true,
+        Token::Mark(sign) => matches!(
+            sign,
+            Sign::Equals
+                | Sign::Bang
+                | Sign::Question
+                | Sign::Colon
+                | Sign::Comma
+                | Sign::Open
+                | Sign::OpenItem
+        ),
+        _ => false,
+    };
+    let goes_on = match token {
+        Token::Operator(_) => true,
+        Token::Mark(sign) => matches!(
+            sign,
+            Sign::Question
+                | Sign::Colon
+                | Sign::Comma
+                | Sign::Semicolon
+                | Sign::Close
+                | Sign::CloseItem
+        ),
+        _ => false,
+    };
+    waits && goes_on
 }

@@ -8,7 +8,7 @@ ghost use Rattle.plain_words.specs.private.StopViews.{StopsAs};
 use crate::counting::line_number;
 use crate::malformed::malformed_at;
 use crate::quotes::{first_line, word, write_line, write_quoted};
-use crate::signs::has_other_quote;
+use crate::lookalikes::has_other_quote;
 use pap_reader::{Element, ValueFront, read_byte, read_value_front, split_letters};
 use std::alloc::AllocError;
 

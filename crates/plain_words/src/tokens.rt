@@ -1,6 +1,6 @@
 //! Where the tokens of an expression stand in its text.
 use expr_tokens::{Placed, Sign, Token, read_tokens};
-use pap_tree::Name;
+use pap_tree::{Name, is_word};
 use std::alloc::{AllocError, Global};
 
 /// The byte of a text at which a name stands first, and not behind a point.
@@ -21,9 +21,21 @@ pub(crate) fn name_byte(
     Ok(None)
 }
 
+/// As what the text of an expression is read.
+#[derive(Clone, Copy, PartialEq, Eq)]
+pub(crate) enum Form {
+    /// The assignment of an EVAL.
+    Assignment,
+    /// The test of an IF.
+    Test,
+    /// The literal of a declaration.
+    Literal,
+}
+
 /// Where the text of an expression isn't read on.
 #[derive(Clone, Copy)]
 pub(crate) struct Stop<'a> {
+    pub form: Form,
     pub text: &'a [u8],
     pub tokens: &'a [Placed],
     /// The byte of the text.
@@ -34,9 +46,10 @@ pub(crate) struct Stop<'a> {
 
 impl<'a> Stop<'a> {
     /// The stop at a byte of a text with these tokens.
-    pub(crate) fn new(text: &'a [u8], tokens: &'a [Placed], at: usize) -> Stop<'a> {
+    pub(crate) fn new(form: Form, text: &'a [u8], tokens: &'a [Placed], at: usize) -> Stop<'a> {
         let number = tokens.iter().position(|found| found.at == at);
         Stop {
+            form,
             text,
             tokens,
             at,
@@ -82,6 +95,16 @@ impl<'a> Stop<'a> {
     pub(crate) fn call(&self) -> Option<OpenCall> {
         open_call(self.tokens, self.number)
     }
+
+    /// The innermost bracket that is open there: `(`, `[` or `{`.
+    pub(crate) fn bracket(&self) -> Option<Sign> {
+        open_bracket(self.tokens, self.number)
+    }
+
+    /// Whether a `?` lacks its `:` within that bracket.
+    pub(crate) fn lacks_colon(&self) -> bool {
+        lacks_colon(self.tokens, self.number)
+    }
 }
 
 /// A call whose bracket is open.
@@ -96,7 +119,7 @@ pub(crate) struct OpenCall {
 }
 
 /// The call whose bracket is the innermost that is open before a token.
-fn open_call(tokens: &[Placed], end: usize) -> Option<OpenCall> {
+pub(crate) fn open_call(tokens: &[Placed], end: usize) -> Option<OpenCall> {
     let mut closed = 0usize;
     let mut commas = 0usize;
     for number in (0..end).rev() {
@@ -123,6 +146,56 @@ fn call_before(tokens: &[Placed], bracket: usize, commas: usize) -> Option<OpenC
         number,
         commas,
     })
+}
+
+/// The innermost bracket that is open before a token.
+fn open_bracket(tokens: &[Placed], end: usize) -> Option<Sign> {
+    let mut closed = 0usize;
+    for number in (0..end).rev() {
+        match sign_at(tokens, number) {
+            Some(sign) if closes(sign) => closed = closed.saturating_add(1),
+            Some(sign) if opens(sign) && closed == 0 => return Some(sign),
+            Some(sign) if opens(sign) => closed = closed.saturating_sub(1),
+            _ => {}
+        }
+    }
+    None
+}
+
+/// Whether a `?` lacks its `:` before a token, within the innermost bracket that is open there.
+fn lacks_colon(tokens: &[Placed], end: usize) -> bool {
+    let mut closed = 0usize;
+    let mut colons = 0usize;
+    for number in (0..end).rev() {
+        match sign_at(tokens, number) {
+            Some(sign) if closes(sign) => closed = closed.saturating_add(1),
+            Some(sign) if opens(sign) && closed == 0 => return false,
+            Some(sign) if opens(sign) => closed = closed.saturating_sub(1),
+            Some(Sign::Colon) if closed == 0 => colons = colons.saturating_add(1),
+            Some(Sign::Question) if closed == 0 && colons == 0 => return true,
+            Some(Sign::Question) if closed == 0 => colons = colons.saturating_sub(1),
+            _ => {}
+        }
+    }
+    false
+}
+
+/// Whether a sign opens a bracket.
+fn opens(sign: Sign) -> bool {
+    matches!(sign, Sign::Open | Sign::OpenItem | Sign::OpenTable)
+}
+
+/// Whether a sign closes a bracket.
+fn closes(sign: Sign) -> bool {
+    matches!(sign, Sign::Close | Sign::CloseItem | Sign::CloseTable)
+}
+
+/// The sign that the token of a number is.
+fn sign_at(tokens: &[Placed], number: usize) -> Option<Sign> {
+    match token_of(tokens, number)? {
+        Token::Mark(sign) => Some(sign),
+        _ => None,
+    }
 }
 
 /// The name that the token of a number is.
@@ -162,5 +235,38 @@ pub(crate) fn is_mark(tokens: &[Placed], at: usize, sign: Sign) -> bool {
             _ => false,
         },
         None => false,
+    }
+}
+
+/// Whether a word goes on there.
+pub(crate) fn goes_on_with_word(stop: &Stop<'_>) -> bool {
+    is_of_word(stop.byte_before()) && is_of_word(stop.byte())
+}
+
+/// Whether a byte belongs to a word.
+fn is_of_word(byte: Option<u8>) -> bool {
+    match byte {
+        Some(byte) => is_word(byte),
+        None => false,
+    }
+}
+
+/// Whether an operand may end with a token.
+pub(crate) fn ends_operand(token: Token) -> bool {
+    match token {
+        Token::Int(_) | Token::Long(_) | Token::Point(_) | Token::Quoted(_) | Token::Name(_) =>
+            true,
+        Token::Mark(Sign::Close | Sign::CloseItem) => true,
+        _ => false,
+    }
+}
+
+/// Whether an operand may begin with a token.
+pub(crate) fn begins_operand(token: Token) -> bool {
+    match token {
+        Token::Int(_) | Token::Long(_) | Token::Point(_) | Token::Quoted(_) | Token::Name(_) =>
+            true,
+        Token::Keyword(_) | Token::Mark(Sign::Open) => true,
+        _ => false,
     }
 }
