@@ -21,7 +21,7 @@ use Rattle.carry_bindings.specs.Filling.{first_of, fits, has_carry, inputs, miss
 use Rattle.plain_words.specs.declared.state.RunReason.{RunReason}
 use Rattle.plain_words.specs.declared.state.RunReason.TheVariants as whys
 use Rattle.plain_words.specs.States.{blocked_by}
-use Rattle.diagnostics.specs.RunReasons.{FirstReasonIsNamed, missing_reasons, named_reason, outside_reason, outside_reasons, reasons_by, run_reasons, unfit_reason, unknown_reasons}
+use Rattle.diagnostics.specs.RunReasons.{FirstReasonIsNamed, has_slot, missing_reasons, named_reason, outside_reason, outside_reasons, reasons_by, run_reasons, unfit_reason, unknown_reasons, untaken_reason}
 
 -- ---- what is made of the elements that pass a test
 
@@ -50,13 +50,13 @@ module _ {X Y : Type 0} (f : X → Y) (p : X → Bool) where
 -- ---- one value, one input
 
 pub unknown_more : (slots : List Slot) (values : List NamedValue) (i : ℕ) (name : List ℕ) → i < length values → name ≡ get_or (map name_of values) i name →
-    unknown_reasons slots (take (suc i) values) ≡ unknown_reasons slots (take i values) ++ cond (not (takes slots name)) (whys.Unknown name ∷ []) []
+    unknown_reasons slots (take (suc i) values) ≡ unknown_reasons slots (take i values) ++ cond (not (takes slots name)) (untaken_reason slots name ∷ []) []
 unknown_more slots [] i name l is = absurd (omega arith)
-unknown_more slots (v ∷ vs) zero name l is = rw is (picked-one (λ (w : NamedValue). whys.Unknown w.name) (λ w. not (takes slots w.name)) v)
+unknown_more slots (v ∷ vs) zero name l is = rw is (picked-one (λ (w : NamedValue). untaken_reason slots w.name) (λ w. not (takes slots w.name)) v)
 unknown_more slots (v ∷ vs) (suc i) name l is =
-    let own = cond (not (takes slots v.name)) (whys.Unknown v.name ∷ []) [] in
-    let new = cond (not (takes slots name)) (whys.Unknown name ∷ []) [] in
-    let cons = picked-cons (λ (w : NamedValue). whys.Unknown w.name) (λ w. not (takes slots w.name)) v in
+    let own = cond (not (takes slots v.name)) (untaken_reason slots v.name ∷ []) [] in
+    let new = cond (not (takes slots name)) (untaken_reason slots name ∷ []) [] in
+    let cons = picked-cons (λ (w : NamedValue). untaken_reason slots w.name) (λ w. not (takes slots w.name)) v in
     cons (take (suc i) vs) ∙ ap (λ t. own ++ t) (unknown_more slots vs i name (omega arith) is)
     ∙ sym (append_assoc own (unknown_reasons slots (take i vs)) new) ∙ ap (λ t. t ++ new) (sym (cons (take i vs)))
 
@@ -100,6 +100,12 @@ answer_of_name : {X : Type 0} (name : X → List ℕ) (f : List ℕ → RunReaso
 answer_of_name name f g is None = refl
 answer_of_name name f g is (Some x) = ap Some (is (name x))
 
+-- a value that no input takes is answered in one way, whichever the reason
+untaken_blocked : (slots : List Slot) (name : List ℕ) → blocked_by (untaken_reason slots name) ≡ blocked.Unknown name
+untaken_blocked slots name =
+    elim (has_slot slots name) as (λ b. blocked_by (cond b (whys.Carried name) (whys.Unknown name)) ≡ blocked.Unknown name)
+    [ true ↦ refl | false ↦ refl ]
+
 -- one input before the others: either its value doesn't fit, or the first is among the others
 outside_before : (s : Slot) (later : List RunReason) (found : Option Slot) (value : Option Decimal) →
     option_map blocked_by (slice_get later 0) ≡ option_map blocked.Range (option_map (λ (t : Slot). t.name) found) →
@@ -136,8 +142,8 @@ first_of_slots slots values =
     let lacking = missing_reasons slots values in
     let beyond = outside_reasons slots values in
     let first_unknown : option_map blocked_by (slice_get strange 0) ≡ option_map blocked.Unknown (unknown slots values) =
-    ap (λ o. option_map blocked_by o) (first_picked (λ (v : NamedValue). whys.Unknown v.name) (λ v. not (takes slots v.name)) values)
-    ∙ answer_of_name name_of whys.Unknown blocked.Unknown (λ n. refl) _ in
+    ap (λ o. option_map blocked_by o) (first_picked (λ (v : NamedValue). untaken_reason slots v.name) (λ v. not (takes slots v.name)) values)
+    ∙ answer_of_name name_of (untaken_reason slots) blocked.Unknown (untaken_blocked slots) _ in
     let first_missing : option_map blocked_by (slice_get lacking 0) ≡ option_map blocked.Missing (missing slots values []) =
     ap (λ o. option_map blocked_by o) (first_picked (λ (s : Slot). whys.Missing s.name) (λ s. is_none (value_of values [] s)) slots)
     ∙ answer_of_name (λ (s : Slot). s.name) whys.Missing blocked.Missing (λ n. refl) _ in

@@ -1,7 +1,8 @@
 -- All reasons why a run without earlier ones has no inputs; the answer of the first is the one that `filled` names (docs/PROFILE.md,
 -- "The inputs of a run").
-use Rattle.std.specs.Prelude.{◌≡◌, List, [], ◌++◌, Option, Some, None, if◌then◌else◌, not, is_none, map, filter, option_map, option_and_then, slice_get}
-use Rattle.std.specs.List.{filter_map}
+use Rattle.std.specs.Prelude.{◌≡◌, ℕ, Bool, List, [], ◌++◌, Option, Some, None, if◌then◌else◌, not, is_none, map, filter, option_map, option_and_then, slice_get}
+use Rattle.std.specs.List.{filter_map, list_any}
+use Rattle.std.specs.Str.{bytes_eq}
 use Rattle.scaled_decimal.specs.Decimals.{Decimal}
 use Rattle.limits_file.specs.declared.slots.Slot.{Slot}
 use Rattle.payroll_records.specs.declared.values.NamedValue.{NamedValue}
@@ -15,9 +16,17 @@ use Rattle.plain_words.specs.declared.state.RunReason.{RunReason}
 use Rattle.plain_words.specs.declared.state.RunReason.TheVariants as reasons
 use Rattle.plain_words.specs.States.{blocked_by}
 
+-- whether there is an input of this name
+abbrev pub has_slot : List Slot → List ℕ → Bool
+has_slot slots name = list_any (λ s. bytes_eq s.name name) slots
+
+-- why no input takes a value of this name: the one of this name carries, or there is none
+abbrev pub untaken_reason : List Slot → List ℕ → RunReason
+untaken_reason slots name = if has_slot slots name then reasons.Carried name else reasons.Unknown name
+
 -- 1. each value that names no input, or one that carries
 abbrev pub unknown_reasons : List Slot → List NamedValue → List RunReason
-unknown_reasons slots values = map (λ v. reasons.Unknown v.name) (filter (λ v. not (takes slots v.name)) values)
+unknown_reasons slots values = map (λ v. untaken_reason slots v.name) (filter (λ v. not (takes slots v.name)) values)
 
 -- 2. each declared input without a value
 abbrev pub missing_reasons : List Slot → List NamedValue → List RunReason

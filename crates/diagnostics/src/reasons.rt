@@ -2,7 +2,7 @@
 ghost use Rattle.std.specs.Prelude.{◌≡◌, ◌∷◌, ◌++◌, [], IfOk, OnOk, if◌then◌else◌, not, is_none};
 ghost use Rattle.std.specs.Option.{option_to_list};
 ghost use Rattle.carry_bindings.specs.Filling.{takes, value_of};
-ghost use Rattle.diagnostics.specs.RunReasons.{missing_reasons, outside_reason, outside_reasons, reasons_by, run_reasons, unknown_reasons, FirstReasonIsNamed};
+ghost use Rattle.diagnostics.specs.RunReasons.{has_slot, missing_reasons, outside_reason, outside_reasons, reasons_by, run_reasons, unknown_reasons, untaken_reason, FirstReasonIsNamed};
 ghost use Rattle.pay_run.specs.Accepted.{accepted};
 
 use limits_file::Slot;
@@ -52,7 +52,7 @@ fn put_unknown(
         ≡ reasons.old.items ++ unknown_reasons slots.now values.now) }
 {
     for name in values.names() {
-        put_if(reasons, !takes(slots, name), RunReason::Unknown(*name))?;
+        put_if(reasons, !takes(slots, name), untaken_reason(slots, name))?;
     }
     Ok(())
 }
@@ -132,6 +132,24 @@ fn takes(slots: &[Slot], name: &Name) -> bool
     slots
         .iter()
         .any(|slot| slot.name == *name && slot.carry.is_none())
+}
+
+/// Why no input takes a value of this name: its input carries, or there is none.
+fn untaken_reason(slots: &[Slot], name: &Name) -> RunReason
+    ensures { result ≡ untaken_reason slots.now name.now }
+{
+    if has_slot(slots, name) {
+        RunReason::Carried(*name)
+    } else {
+        RunReason::Unknown(*name)
+    }
+}
+
+/// Whether there is an input of this name.
+fn has_slot(slots: &[Slot], name: &Name) -> bool
+    ensures { result ≡ has_slot slots.now name.now }
+{
+    slots.iter().any(|slot| slot.name == *name)
 }
 
 /// The value of an input without earlier runs: 0 where it carries, and else the record's or its default.

@@ -17,6 +17,7 @@ use Rattle.plain_words.specs.Refusals.{IsInPlan, IsInRanges}
 abbrev pub blocked_by : RunReason → Blocked
 blocked_by (reasons.Waits day) = blocked.Waits day
 blocked_by (reasons.Unknown name) = blocked.Unknown name
+blocked_by (reasons.Carried name) = blocked.Unknown name
 blocked_by (reasons.Missing name) = blocked.Missing name
 blocked_by (reasons.Outside name value limit) = blocked.Range name
 
@@ -44,8 +45,10 @@ state_text (reasons.Waits day) =
     codes "the run waits, since an input carries over from the employee's earlier runs of the year and the run of "
     ++ (day_text day.year day.month day.day ++ codes " isn't ok")
 state_text (reasons.Unknown name) =
-    codes "a value is given for " ++ (name
-    ++ codes ", and the plan has no such input, or the range file fills it from earlier runs")
+    codes "a value is given for " ++ (name ++ codes ", and the plan has no such input")
+state_text (reasons.Carried name) =
+    codes "a value is given for " ++ (name ++ (codes ", an input that the entry [bind."
+    ++ (name ++ codes "] fills from earlier runs")))
 state_text (reasons.Missing name) = codes "the input " ++ (name ++ codes " has no value")
 state_text (reasons.Outside name value limit) = input_value_text name value ++ outside_text value limit
 
@@ -53,14 +56,16 @@ state_text (reasons.Outside name value limit) = input_value_text name value ++ o
 abbrev pub state_help : RunReason → List ℕ
 state_help (reasons.Waits day) = codes "mend that run first"
 state_help (reasons.Unknown name) = codes "leave the value out, or correct its name"
+state_help (reasons.Carried name) = codes "leave the value out"
 state_help (reasons.Missing name) = codes "give one as NAME=VALUE or in the table, or write a default at its INPUT"
 state_help (reasons.Outside name value limit) =
     codes "correct the value, or widen the input's entry and check the plan again"
 
--- an input without a value stands in the flowchart's file, one outside its range in the range file
+-- an input without a value stands in the flowchart's file, one outside its range and one that carries in the range file
 abbrev pub IsPlaceOfState : RunReason → PlanPlace → Type 0
 IsPlaceOfState (reasons.Waits day) place = place ≡ in_plan None
 IsPlaceOfState (reasons.Unknown name) place = place ≡ in_plan None
+IsPlaceOfState (reasons.Carried name) place = IsInRanges place
 IsPlaceOfState (reasons.Missing name) place = IsInPlan place
 IsPlaceOfState (reasons.Outside name value limit) place = IsInRanges place
 

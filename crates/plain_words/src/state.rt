@@ -23,8 +23,10 @@ use std::alloc::{AllocError, Global};
 pub enum RunReason {
     /// An input carries, and the earlier run of this day isn't ok.
     Waits(Day),
-    /// A value of this name is given, and there is no such input, or it carries.
+    /// A value of this name is given, and there is no such input.
     Unknown(Name),
+    /// A value of this name is given, and its input carries.
+    Carried(Name),
     /// The input of this name has no value.
     Missing(Name),
     /// The value of this input doesn't fit its range.
@@ -67,7 +69,11 @@ fn write_reason(out: &mut String, reason: &RunReason) -> Result<(), AllocError>
         ),
         RunReason::Unknown(name) => write!(
             out,
-            "a value is given for {name}, and the plan has no such input, or the range file fills it from earlier runs"
+            "a value is given for {name}, and the plan has no such input"
+        ),
+        RunReason::Carried(name) => write!(
+            out,
+            "a value is given for {name}, an input that the entry [bind.{name}] fills from earlier runs"
         ),
         RunReason::Missing(name) => write!(out, "the input {name} has no value"),
         RunReason::Outside { name, value, limit } => {
@@ -128,6 +134,10 @@ fn find_reason(
 {
     match reason {
         RunReason::Waits(_) | RunReason::Unknown(_) => Ok(Found::in_plan(None)),
+        RunReason::Carried(name) => {
+            let at = entry_byte(limits.bytes, Section::Bind, name.as_str());
+            Ok(Found::in_ranges(at))
+        }
         RunReason::Missing(name) => Ok(Found::in_plan(input_byte(alloc, plan, name)?)),
         RunReason::Outside { name, .. } => {
             let at = entry_byte(limits.bytes, Section::Input, name.as_str());
@@ -143,6 +153,7 @@ fn state_help(reason: &RunReason) -> &'static str
     match reason {
         RunReason::Waits(_) => "mend that run first",
         RunReason::Unknown(_) => "leave the value out, or correct its name",
+        RunReason::Carried(_) => "leave the value out",
         RunReason::Missing(_) => {
             "give one as NAME=VALUE or in the table, or write a default at its INPUT"
         }

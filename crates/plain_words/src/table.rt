@@ -5,13 +5,13 @@ ghost use Rattle.plain_words.specs.Lines.{IsOneLine};
 
 use crate::encoding::is_utf16;
 use crate::lines::one_line;
+use crate::number_slip::NumberSlip;
 use crate::place::TextFile;
 use crate::position;
 use crate::quotes::write_quoted;
 use crate::table_row::{TableRow, earlier_row, find_row};
 use pap_tree::Name;
 use payroll_records::{Day, Employee, MOST_VALUES, Month, TableFault};
-use scaled_decimal::read_dec;
 use std::alloc::{AllocError, Global};
 use std::collections::BTreeSet;
 
@@ -179,13 +179,12 @@ fn write_day_fault(told: &mut String, row: &TableRow) -> Result<(), AllocError> 
 fn write_value_fault(told: &mut String, cell: &[u8], name: Name) -> Result<(), AllocError> {
     write!(told, "the value of {name} is ")?;
     write_quoted(told, cell, 0)?;
-    let inner = cell.trim_ascii();
-    if has_blanks(cell) && (inner.is_empty() || read_dec(inner).is_ok()) {
-        return told.push_str(BLANKS);
+    match NumberSlip::of(cell).words() {
+        Some(words) => write!(told, ", with {words}"),
+        None => told.push_str(
+            ", and no number; write digits, a point before decimal places and nothing between thousands, as 2500.55",
+        ),
     }
-    told.push_str(
-        ", and no number of at most 30 decimal places and at most 10^37 without its point; write a point before decimal places and nothing between thousands, as 2500.55",
-    )
 }
 
 /// Appends which earlier row has the employee and the day of a row, and what helps.

@@ -4,6 +4,7 @@ ghost use Rattle.std.specs.String.{string_bytes};
 ghost use Rattle.plain_words.specs.Lines.{IsOneLine};
 
 use crate::lines::one_line;
+use crate::number_slip::NumberSlip;
 use crate::quotes::write_quoted;
 use pap_tree::Name;
 use std::alloc::{AllocError, Global};
@@ -16,12 +17,26 @@ pub fn value_words(alloc: Global, word: &[u8]) -> Result<String, AllocError>
     let length = word.iter().take_while(|byte| **byte != b'=').count();
     let mut told = String::new(alloc);
     write_quoted(&mut told, word, 0)?;
-    told.push_str(if length == word.len() {
-        " has no `=`; a value stands behind its name, as PAY=2500.55"
-    } else if Name::read(&word[..length]).is_none() {
-        " has no name before its `=`; a name is 1 to 32 letters, digits or `_`, and doesn't begin with a digit"
-    } else {
-        " has no number behind its `=`, or one of more than 30 decimal places or beyond 10^37 without its point; a number has a point before decimal places and nothing between thousands, as 2500.55"
+    told.push_str(" has ")?;
+    told.push_str(match word.get(length.saturating_add(1)..) {
+        Some(value) => value_fault(&word[..length], value),
+        None => "no `=`; a value stands behind its name, as PAY=2500.55",
     })?;
     one_line(alloc, &told)
+}
+
+/// What a word has that isn't a name and a number on the sides of its first `=`, and what helps.
+fn value_fault(name: &[u8], value: &[u8]) -> &'static str {
+    if Name::read(name).is_none() {
+        return "no name before its `=`; a name is 1 to 32 letters, digits or `_`, and doesn't begin with a digit";
+    }
+    if value.is_empty() {
+        return "nothing behind its `=`; write a number there, as PAY=2500.55, or leave the word out";
+    }
+    match NumberSlip::of(value).words() {
+        Some(words) => words,
+        None => {
+            "no number behind its `=`; a number has digits, a point before decimal places and nothing between thousands, as 2500.55"
+        }
+    }
 }

@@ -2,8 +2,7 @@ use Rattle.std.proofs.Common.{[], ◌∷◌, ◌++◌, ◌∙◌, refl, sym, ap,
 use Rattle.std.specs.Prelude.{not}
 use Rattle.std.proofs.Math.ListN.{length-map}
 use Rattle.payroll_records.specs.NamedValues.{name_of}
-use Rattle.plain_words.specs.declared.state.RunReason.TheVariants as whys
-use Rattle.diagnostics.specs.RunReasons.{unknown_reasons}
+use Rattle.diagnostics.specs.RunReasons.{unknown_reasons, untaken_reason}
 use Rattle.diagnostics.proofs.ReasonLemmas.{unknown_more}
 use Rattle.diagnostics.proofs.reasons.put_unknown.Goals as goal
 
@@ -16,8 +15,9 @@ loop-name-preserved c =
     let within = rw c.names-name-items.ensures.all at c.loop-name-test.true in
     let is = rw c.names-name-items.ensures.all at c.name-item.is in
     let old = c.args.reasons.now.items in
-    let own = cond (not c.takes.result) (whys.Unknown name ∷ []) [] in
+    let own = cond (not c.takes.result) (c.untaken_reason.result ∷ []) [] in
     let more = unknown_more slots values l.name-index name (omega (arith, within, length-map values name_of)) is in
     c.in_ok-put_if.ensures ∙ ap (λ t. t ++ own) l.invariant ∙ append_assoc old (unknown_reasons slots (take l.name-index values)) own
-    ∙ ap (λ t. old ++ t) (ap (λ b. unknown_reasons slots (take l.name-index values) ++ cond (not b) (whys.Unknown name ∷ []) []) c.takes.ensures ∙ sym more)
+    ∙ ap (λ t. old ++ t) (ap (λ r. unknown_reasons slots (take l.name-index values) ++ cond (not c.takes.result) (r ∷ []) []) c.untaken_reason.ensures
+    ∙ ap (λ b. unknown_reasons slots (take l.name-index values) ++ cond (not b) (untaken_reason slots name ∷ []) []) c.takes.ensures ∙ sym more)
     ∙ rw add-one refl
