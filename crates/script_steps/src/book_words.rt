@@ -1,11 +1,13 @@
 //! What is wrong with a saved book, in plain words.
+use crate::book_plans::{behind_lines, refused_words, texts_length};
 use crate::shown::write_shown;
+use crate::takes::Takes;
+use crate::time_words::write_no_day;
 use book_file::BookFault;
 use payroll_records::Day;
 use plain_words::TextFile;
 use saved_items::{Wanted, WrongItem, wrong_item};
 use std::alloc::{AllocError, Global};
-use std::str;
 
 /// How many items stand before the first plan.
 const BEFORE_PLANS: u32 = 3;
@@ -22,9 +24,7 @@ pub(crate) fn book_words(
             "{name}: {fault}; `save` writes none that is longer: split the runs by employee into several books"
         ),
         BookFault::Form { item } => form_words(alloc, file, *item),
-        BookFault::Plan { .. } => format!(in alloc;
-            "{name}: {fault}; its texts stand behind its line, and `papcalc check` on them says why"
-        ),
+        BookFault::Plan { day } => refused_words(alloc, file, *day),
         fault => format!(in alloc; "{name}: {fault}"),
     }
 }
@@ -55,8 +55,61 @@ fn write_item(told: &mut String, book: &[u8], wrong: &WrongItem<'_>) -> Result<(
     }
     write!(told, "item {item}, ")?;
     write_line(told, wrong.found)?;
-    let needed = wrong.wanted.words();
-    write!(told, ", is not of its form; {needed}")
+    write_form_fault(told, wrong)
+}
+
+/// Appends why a line isn't that of an item, and what helps.
+fn write_form_fault(told: &mut String, wrong: &WrongItem<'_>) -> Result<(), AllocError> {
+    let line = wrong.found;
+    if line.ends_with(b"\r") {
+        return told.push_str(
+            ", ends in a carriage return and a line feed, as on Windows; a saved book has line feeds alone: copy it as it was saved",
+        );
+    }
+    if has_empty_word(line) {
+        return told.push_str(
+            ", has a blank too many; one blank stands between words, and none before or behind them",
+        );
+    }
+    match wrong.wanted {
+        Wanted::End if line.starts_with(b"run ") => told.push_str(
+            " is one more run than the line `runs R` says; correct its number, or take the run out",
+        ),
+        Wanted::Run if is_run_without_day(line) => {
+            told.push_str(", has no day as its third word: ")?;
+            write_no_day(told, word_of(line, 2), Takes::Day)
+        }
+        wanted => {
+            let needed = wanted.words();
+            write!(told, ", is not of its form; {needed}")
+        }
+    }
+}
+
+/// Whether a line that isn't empty has a blank at an end, or two blanks one behind the other.
+fn has_empty_word(line: &[u8]) -> bool {
+    for word in line.split(|byte| *byte == b' ') {
+        if word.is_empty() {
+            return !line.is_empty();
+        }
+    }
+    false
+}
+
+/// Whether a line has the words of a run, but no day as the third.
+fn is_run_without_day(line: &[u8]) -> bool {
+    let day = word_of(line, 2);
+    line.starts_with(b"run ") && !day.is_empty() && Day::read(day).is_none()
+}
+
+/// The word of a line at a place, counted from 0. Empty beyond the last.
+fn word_of(line: &[u8], place: usize) -> &[u8] {
+    for (at, word) in line.split(|byte| *byte == b' ').enumerate() {
+        if at == place {
+            return word;
+        }
+    }
+    &[]
 }
 
 /// Appends where the text of a saved book was cut off.
@@ -145,27 +198,4 @@ fn texts_fault(book: &[u8], wrong: &WrongItem<'_>) -> Option<TextsFault> {
         return Some(TextsFault::NoItem);
     }
     None
-}
-
-/// How many bytes the texts of a plan have, as its line `plan DAY A B` says. None where a line isn't of this form.
-fn texts_length(line: &[u8]) -> Option<usize> {
-    let line = str::from_utf8(line).ok()?;
-    let mut words = line.split(' ');
-    if words.next()? != "plan" {
-        return None;
-    }
-    let _day = Day::read(words.next()?.as_bytes())?;
-    let plan = words.next()?.parse::<usize>().ok()?;
-    let limits = words.next()?.parse::<usize>().ok()?;
-    plan.checked_add(limits)
-}
-
-/// What stands behind so many lines of a text.
-fn behind_lines(text: &[u8], count: usize) -> &[u8] {
-    let mut rest = text;
-    for _line in 0..count {
-        let length = rest.iter().take_while(|byte| **byte != b'\n').count();
-        rest = rest.get(length.saturating_add(1)..).unwrap_or(&[]);
-    }
-    rest
 }

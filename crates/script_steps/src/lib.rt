@@ -1,6 +1,7 @@
 //! The lines of a script, carried out one by one: what a line answers, what it makes of the book, and what it counts.
 #![tactic(auto)]
 
+mod book_plans;
 mod book_words;
 mod command;
 mod edits;

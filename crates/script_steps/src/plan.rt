@@ -115,7 +115,7 @@ fn judge<F: Files>(
 }
 
 /// The plan of two texts.
-fn judge_texts(
+pub(crate) fn judge_texts(
     alloc: Global,
     plan: TextFile<'_>,
     limits: TextFile<'_>,

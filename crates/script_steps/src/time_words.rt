@@ -71,6 +71,17 @@ pub(crate) fn write_day_fault(
             " is a month, and a day has to stand there; write one, as {month}-01"
         );
     }
+    write_form_of_day(told, word, takes)
+}
+
+/// Appends a word that isn't a day, why, and what helps.
+pub(crate) fn write_no_day(told: &mut String, word: &[u8], takes: Takes) -> Result<(), AllocError> {
+    write_shown(told, word)?;
+    write_form_of_day(told, word, takes)
+}
+
+/// Appends why a word that is shown isn't a day, nor a month, and what helps.
+fn write_form_of_day(told: &mut String, word: &[u8], takes: Takes) -> Result<(), AllocError> {
     if let Some(day) = day_with_points(word) {
         return write!(told, " isn't written as a day is; write it as {day}");
     }
