@@ -5,7 +5,7 @@ ghost use Rattle.std.specs.Prelude.{◌≡◌};
 
 mod wrong_words;
 
-use crate::wrong_words::what_is_wrong;
+use crate::wrong_words::{file_help, what_is_wrong};
 use messages::{AnswerSink, LastRefusal, MessageForm, MessageSink};
 use outside::{
     FailedFile, Files, RealFiles, Sink, SinkFault, Source, SourceFault, StdSink, StdSource,
@@ -176,17 +176,19 @@ fn explain_words<S: Sink + Drop>(alloc: Global, notes: &mut MessageSink<'_, S>, 
 fn explain_file_fault<S: Sink + Drop>(
     alloc: Global,
     notes: &mut MessageSink<'_, S>,
+    words: &[String],
     file: &FailedFile,
     line: Option<u64>,
 ) {
-    if let Ok(text) = file_fault_text(alloc, file, line) {
+    if let Ok(text) = file_fault_text(alloc, words, file, line) {
         notes.tell(&text);
     }
 }
 
-/// Which file can't be read and why, and at which line of a script.
+/// Which file can't be read and why, and at which line of a script, and what helps.
 fn file_fault_text(
     alloc: Global,
+    words: &[String],
     file: &FailedFile,
     line: Option<u64>,
 ) -> Result<String, AllocError> {
@@ -196,7 +198,10 @@ fn file_fault_text(
         Some(line) => {
             format!(in alloc; "stdin:{line}: the file `{name}`: {fault}; the script ends here")
         }
-        None => format!(in alloc; "papcalc: the file `{name}`: {fault}"),
+        None => {
+            let help = file_help(alloc, words, &file.name)?;
+            format!(in alloc; "papcalc: the file `{name}`: {fault}{help}")
+        }
     }
 }
 
@@ -250,12 +255,13 @@ fn explain_fault<S: Sink + Drop>(
     alloc: Global,
     notes: &mut MessageSink<'_, S>,
     status: Status,
+    words: &[String],
     faults: &Faults<'_>,
 ) {
     if status == Status::FileFault
         && let Some(file) = faults.file
     {
-        explain_file_fault(alloc, notes, file, faults.line);
+        explain_file_fault(alloc, notes, words, file, faults.line);
     }
     if status == Status::ReadFault
         && let Some(fault) = faults.source
@@ -346,7 +352,7 @@ fn carried_out(rt: &HostRuntime, form: MessageForm, words: &[String]) -> ExitCod
         source: source.fault(),
         sink: sink.inner().fault(),
     };
-    explain_fault(alloc, &mut notes, status, &faults);
+    explain_fault(alloc, &mut notes, status, words, &faults);
     end(alloc, &mut notes, status, words)
 }
 
