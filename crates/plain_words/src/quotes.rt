@@ -1,7 +1,9 @@
 //! Parts of a file as they are quoted.
-ghost use Rattle.std.specs.Prelude.{◌≡◌, ◌≤◌, length};
+ghost use Rattle.std.specs.Prelude.{◌≡◌, ◌≤◌, ◌++◌, OnOk, length};
 ghost use Rattle.std.specs.List.{prefix_len, take_while};
+ghost use Rattle.std.specs.String.{string_bytes};
 ghost use Rattle.pap_tree.specs.Names.{is_word};
+ghost use Rattle.plain_words.specs.Lines.{left_out, quote_start, quoted_text};
 
 use pap_tree::is_word;
 use std::alloc::AllocError;
@@ -10,18 +12,29 @@ use std::alloc::AllocError;
 const LONGEST: usize = 160;
 
 /// Appends a text in backquotes; of a long one the part round a place, with two points for what is left out.
-pub(crate) fn write_quoted(out: &mut String, text: &[u8], at: usize) -> Result<(), AllocError> {
+pub(crate) fn write_quoted(out: &mut String, text: &[u8], at: usize) -> Result<(), AllocError>
+    ensures { OnOk result
+        (string_bytes out.new ≡ string_bytes out.old ++ quoted_text text.now at) }
+{
     let start = quote_start(text, at);
     let end = start.saturating_add(LONGEST).min(text.len());
     let shown = String::from_utf8_lossy(*out.allocator(), &text[start..end])?;
-    let front = if start == 0 { "" } else { ".." };
-    let behind = if end == text.len() { "" } else { ".." };
+    let front = left_out(start == 0);
+    let behind = left_out(end == text.len());
     write!(out, "`{front}{shown}{behind}`")
+}
+
+/// Two points in place of what is left out.
+fn left_out(whole: bool) -> &'static str
+    ensures { result.now ≡ left_out whole }
+{
+    if whole { "" } else { ".." }
 }
 
 /// Where the part of a text begins that is quoted for a place.
 fn quote_start(text: &[u8], at: usize) -> usize
-    ensures { result ≤ length text.now }
+    ensures start { result ≡ quote_start text.now at }
+    ensures within { result ≤ length text.now }
 {
     if text.len() <= LONGEST {
         return 0;

@@ -1,7 +1,7 @@
 //! What is wrong with a word that is to give a value.
 ghost use Rattle.std.specs.Prelude.{IfOk};
 ghost use Rattle.std.specs.String.{string_bytes};
-ghost use Rattle.plain_words.specs.Lines.{IsOneLine};
+ghost use Rattle.plain_words.specs.Lines.{BeginsQuoted, IsOneLine};
 
 use crate::lines::one_line;
 use crate::number_slip::NumberSlip;
@@ -12,7 +12,8 @@ use std::alloc::{AllocError, Global};
 /// What is wrong with a word that isn't of the form NAME=VALUE, in one line of plain words that begins with the word and ends
 /// with what helps: it has no `=`, or what stands on a side of its first one isn't of its form. Fails only for lack of memory.
 pub fn value_words(alloc: Global, word: &[u8]) -> Result<String, AllocError>
-    ensures { IfOk result (λ words. IsOneLine (string_bytes words)) }
+    ensures line { IfOk result (λ words. IsOneLine (string_bytes words)) }
+    ensures begins { IfOk result (λ words. BeginsQuoted word.now (string_bytes words)) }
 {
     let length = word.iter().take_while(|byte| **byte != b'=').count();
     let mut told = String::new(alloc);
