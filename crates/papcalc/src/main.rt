@@ -364,7 +364,7 @@ fn answer_itself(rt: &HostRuntime, form: MessageForm, text: &str) -> ExitCode {
     let alloc = rt.alloc();
     let last = LastRefusal::new(alloc);
     let mut notes = MessageSink::new(StdSink::new(rt.stderr()), form, alloc, &[], &last);
-    explain_write_fault(alloc, &mut notes, SinkFault::of(error.kind()));
+    explain_write_fault(alloc, &mut notes, SinkFault::of(&error));
     end(alloc, &mut notes, Status::WriteFault, &[])
 }
 
