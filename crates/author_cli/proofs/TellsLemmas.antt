@@ -11,8 +11,8 @@ use Rattle.pap_plan.specs.declared.refusal.PlanRefusal.TheVariants as refusals
 use Rattle.pap_plan.specs.Acceptance.{IsRefused}
 use Rattle.plain_words.specs.Lines.{shown_text}
 use Rattle.plain_words.specs.Positions.{line_number, column_number, position_text}
-use Rattle.plain_words.specs.Places.{NamedText, PlanFiles, PlanPlace, in_plan, in_ranges, IsReason, BeginsAt}
-use Rattle.plain_words.specs.Refusals.{IsPlaceOfFault, IsPlaceOfLimits, IsPlaceOf, BeginsAtRefusal}
+use Rattle.plain_words.specs.Places.{NamedText, PlanFiles, PlanPlace, in_plan, in_ranges}
+use Rattle.plain_words.specs.Refusals.{IsPlaceOfFault, IsPlaceOfLimits, IsPlaceOf, IsReasonOf, GivesReasonAt, BeginsAtRefusal}
 use Rattle.plan_answers.proofs.Laws.{whole}
 
 -- a front of a file
@@ -72,10 +72,10 @@ moved plan (refusals.Order fault) a b h = h
 moved plan (refusals.Range fault) a b h = h
 moved plan refusals.Memory a b h = h
 
--- the words begin with the place behind these bytes, and go on with a reason
-abbrev IsBehind : (name words before : List ℕ) → Type 0
-IsBehind name words before =
-    (text : List ℕ) × (IsReason text × (words ≡ shown_text
+-- the words begin with the place behind these bytes, and go on with a reason of this refusal
+abbrev IsBehind : (plan : List ℕ) (r : PlanRefusal) (name words before : List ℕ) → Type 0
+IsBehind plan r name words before =
+    (text : List ℕ) × (IsReasonOf plan r text × (words ≡ shown_text
     ((name ++ (codes ":" ++ position_text (line_number before) (column_number before))) ++ (codes ": " ++ text))))
 
 pub begins_ranges : (m : ℕ) (plan limits : NamedText) (r : PlanRefusal) (words : List ℕ)
@@ -83,14 +83,14 @@ pub begins_ranges : (m : ℕ) (plan limits : NamedText) (r : PlanRefusal) (words
 begins_ranges m plan limits r words h = by h.place h.is h.begins
   where
     by : (place : PlanPlace) → IsPlaceOf plan.bytes r place
-        → BeginsAt (both plan (front m limits)) place words → BeginsAtRefusal (both plan limits) r words
+        → GivesReasonAt (both plan (front m limits)) place r words → BeginsAtRefusal (both plan limits) r words
     by (in_plan at) is begins = record { place = in_plan at; is = is; begins = begins; helps = h.helps }
     by (in_ranges None) is begins = record { place = in_ranges None; is = is; begins = begins; helps = h.helps }
     by (in_ranges (Some at)) is begins =
         let same = front_place at m limits.bytes in record {
           place = in_ranges (Some same.0);
           is = moved plan.bytes r at same.0 is;
-          begins = subst (λ before. IsBehind limits.name words before) same.1 begins;
+          begins = subst (λ before. IsBehind plan.bytes r limits.name words before) same.1 begins;
           helps = h.helps;
         }
 
@@ -126,10 +126,11 @@ within plan limits refusals.Memory h = absurd h
 -- one that is too long is refused as a whole
 on_long : (n : ℕ) (plan limits : NamedText) (words : List ℕ)
     → BeginsAtRefusal (both (front n plan) limits) too_many words → BeginsAtRefusal (both plan limits) too_many words
-on_long n plan limits words h = record {
+on_long n plan limits words h =
+    let begins = subst (λ p. GivesReasonAt (both (front n plan) limits) p too_many words) h.is h.begins in record {
   place = in_plan None;
   is = refl;
-  begins = subst (λ p. BeginsAt (both (front n plan) limits) p words) h.is h.begins;
+  begins = (begins.0, (record { reason = begins.1.0.reason; says = begins.1.0.says }, begins.1.1));
   helps = h.helps;
 }
 

@@ -1,5 +1,5 @@
 -- The places of what doesn't fit between a flowchart and its range file.
-use Rattle.std.proofs.Common.{◌≡◌, ℕ, Bool, true, false, List, [], ◌∷◌, refl, sym, ap, ◌∙◌, subst}
+use Rattle.std.proofs.Common.{◌≡◌, ℕ, Bool, true, false, List, [], ◌∷◌, ◌++◌, refl, sym, ap, ◌∙◌, subst}
 use Rattle.std.specs.Prelude.{Result, Ok, Err, IfOk, map, ◌||◌}
 use Rattle.std.specs.List.{list_any}
 use Rattle.std.specs.Str.{bytes_eq}
@@ -15,6 +15,7 @@ use Rattle.pap_plan.specs.declared.refusal.PlanRefusal.TheVariants as refusals
 use Rattle.plain_words.specs.declared.found.Found.{Found}
 use Rattle.plain_words.specs.Places.{PlanPlace}
 use Rattle.plain_words.specs.Refusals.{IsInPlan, IsInRanges, DeclaresInput, IsPlaceOfUnmatched}
+use Rattle.plain_words.specs.private.DetailViews.{undeclared_text, AppendsByInput, AppendsDetail}
 use Rattle.plain_words.specs.private.FoundViews.{place_in, place_of, IsOfPlan, IsOfRanges, IsPlaceBeside}
 use Rattle.plain_words.specs.private.SiteViews.{declares_input}
 
@@ -48,6 +49,33 @@ declared_in : (plan name : List ℕ) (x : Elements) → IsElements plan (tree_of
 declared_in plan name x read d =
     let same = one_tree plan d.tree (tree_of x) d.read.text read.text in
     names_any x.inputs.items name ∙ sym (ap (λ (t : ElementTree). has_name (map (λ d. d.name) t.inputs) name) same) ∙ d.declared
+
+-- ---- what is appended
+
+-- where the flowchart's file isn't read, it declares no input
+pub undeclared : (plan : List ℕ) (r : PlanRefusal) (old new : List ℕ) → ((tree : ElementTree) → ¬ (IsElements plan tree))
+    → new ≡ old ++ undeclared_text r → AppendsDetail plan r old new
+undeclared plan (refusals.LimitName name) old new unread is =
+    record { input = λ d. absurd (unread d.tree d.read); none = λ _. is }
+undeclared plan (refusals.Bind name) old new unread is =
+    record { input = λ d. absurd (unread d.tree d.read); none = λ _. is }
+undeclared plan _ old new unread is = tt
+
+-- what is appended by the elements that were read
+pub appended : (plan name : List ℕ) (x y : Elements) (text : Bool → List ℕ) (old new : List ℕ) → y ≡ x → IsElements plan (tree_of x)
+    → new ≡ old ++ text (declares_input y name) → AppendsByInput plan name text old new
+appended plan name x y text old new same read is = record {
+  input = λ d. told ∙ ap (λ b. old ++ text b) (declared_in plan name x read d);
+  none = λ lacks. told ∙ by (declares_input x name) refl lacks;
+}
+  where
+    told : new ≡ old ++ text (declares_input x name)
+    told = is ∙ ap (λ (z : Elements). old ++ text (declares_input z name)) same
+
+    by : (b : Bool) → declares_input x name ≡ b → ¬ (DeclaresInput plan name)
+        → old ++ text (declares_input x name) ≡ old ++ text false
+    by true same lacks = absurd (lacks (declared_by plan name x read same))
+    by false same lacks = ap (λ b. old ++ text b) same
 
 -- ---- an input without a limit, or a limit of no input
 

@@ -1,10 +1,10 @@
 -- What is shown of texts that stand one behind another, and of what helps.
-use Rattle.std.proofs.Common.{◌≡◌, ◌≢◌, ℕ, List, [], ◌++◌, refl, sym, ap, ◌∙◌, append_assoc}
+use Rattle.std.proofs.Common.{◌≡◌, ◌≢◌, ℕ, List, [], ◌++◌, refl, sym, ap, ◌∙◌, subst, append_assoc}
 use Rattle.std.specs.Prelude.{Option, None, Some, IfSome, Result, Ok, Err, IfOk, OnOk, map, codes, encode_utf8_all}
 use Rattle.std.specs.declared.alloc.AllocError.{AllocError}
 use Rattle.std.specs.Char.{encode_utf8}
 use Rattle.std.specs.Str.{IsUtf8, chars}
-use Rattle.std.proofs.lemmas.List.{map-append}
+use Rattle.std.proofs.lemmas.List.{append-nil, map-append}
 use Rattle.std.proofs.lemmas.Str.{IsUtf8-append, chars-append, encodes-append}
 use Rattle.pap_reader.specs.declared.fault.ReadFault.{ReadFault}
 use Rattle.pap_reader.specs.declared.fault.ReadFault.TheVariants as reads
@@ -30,12 +30,14 @@ use Rattle.scaled_decimal.specs.Decimals.{Decimal}
 use Rattle.limits_file.specs.declared.limits.InputLimit.{InputLimit}
 use Rattle.plain_words.specs.declared.state.RunReason.{RunReason}
 use Rattle.plain_words.specs.declared.state.RunReason.TheVariants as reasons
-use Rattle.plain_words.specs.Lines.{shown_char, shown_text, EndsWith}
-use Rattle.plain_words.specs.Places.{PlanFiles, words_at}
+use Rattle.plain_words.specs.Lines.{shown_char, shown_text, StartsWith, EndsWith}
+use Rattle.plain_words.specs.Places.{PlanFiles, words_at, IsReason}
 use Rattle.plain_words.specs.Helps.{read_help, expression_help, type_help, order_help, limits_help, cause_help}
 use Rattle.plain_words.specs.Helps.{range_help, help_of}
-use Rattle.plain_words.specs.Refusals.{IsPlaceOf, BeginsAtRefusal}
+use Rattle.plain_words.specs.RefusalTexts.{plan_refusal_text}
+use Rattle.plain_words.specs.Refusals.{IsPlaceOf, SaysWrong, BeginsAtRefusal}
 use Rattle.plain_words.specs.States.{outside_text, input_value_text, state_text, state_help, IsPlaceOfState, SaysState}
+use Rattle.plain_words.specs.private.DetailViews.{AppendsDetail}
 use Rattle.plain_words.specs.private.FoundViews.{place_of, help_text, HelpsAs}
 
 shown-append : (a b : List ℕ) → IsUtf8 a → shown_text (a ++ b) ≡ shown_text a ++ shown_text b
@@ -141,16 +143,52 @@ ends_with_help r found words helps ends = by (help_of r) helps (help_shown r)
     by (Some h) is shown =
         (ends.0, ends.1 ∙ ap (λ x. ends.0 ++ shown_text (codes "; " ++ x)) is ∙ ap (λ x. ends.0 ++ x) shown)
 
+-- words start with themselves, and with nothing
+pub starts_whole : (text words : List ℕ) → words ≡ text → StartsWith text words
+starts_whole text words is = ([], is ∙ sym (append-nil text))
+
+pub starts_none : (text words : List ℕ) → text ≡ [] → StartsWith text words
+starts_none text words none = (words, ap (λ t. t ++ words) (sym none))
+
+starts_sooner : (text detail wrong : List ℕ) → StartsWith (text ++ detail) wrong → StartsWith text wrong
+starts_sooner text detail wrong s = (detail ++ s.0, s.1 ∙ append_assoc text detail s.0)
+
+says_appended : (plan : List ℕ) (r : PlanRefusal) (detail wrong : List ℕ) → AppendsDetail plan r [] detail
+    → StartsWith (plan_refusal_text r ++ detail) wrong → SaysWrong plan r wrong
+says_appended plan (refusals.LimitName name) detail wrong by s = record {
+  input = λ d. subst (λ text. StartsWith text wrong) (by.input d) s;
+  none = λ lacks. subst (λ text. StartsWith text wrong) (by.none lacks) s;
+}
+says_appended plan (refusals.Bind name) detail wrong by s = record {
+  input = λ d. subst (λ text. StartsWith text wrong) (by.input d) s;
+  none = λ lacks. subst (λ text. StartsWith text wrong) (by.none lacks) s;
+}
+says_appended plan (refusals.Read fault) detail wrong by s = starts_sooner (plan_refusal_text (refusals.Read fault)) detail wrong s
+says_appended plan (refusals.Expr spot fault) detail wrong by s = starts_sooner (plan_refusal_text (refusals.Expr spot fault)) detail wrong s
+says_appended plan (refusals.Types fault) detail wrong by s = starts_sooner (plan_refusal_text (refusals.Types fault)) detail wrong s
+says_appended plan (refusals.Order fault) detail wrong by s = starts_sooner (plan_refusal_text (refusals.Order fault)) detail wrong s
+says_appended plan (refusals.Limits fault) detail wrong by s = starts_sooner (plan_refusal_text (refusals.Limits fault)) detail wrong s
+says_appended plan (refusals.LimitKind name) detail wrong by s = starts_sooner (plan_refusal_text (refusals.LimitKind name)) detail wrong s
+says_appended plan (refusals.Range fault) detail wrong by s = starts_sooner (plan_refusal_text (refusals.Range fault)) detail wrong s
+says_appended plan refusals.Memory detail wrong by s = starts_sooner (plan_refusal_text refusals.Memory) detail wrong s
+
+-- what starts with the refusal's own text, and behind it with what is appended, says what is wrong
+pub says_wrong : (plan : List ℕ) (r : PlanRefusal) (old detail wrong : List ℕ) → old ≡ [] → AppendsDetail plan r old detail
+    → StartsWith (plan_refusal_text r ++ detail) wrong → SaysWrong plan r wrong
+says_wrong plan r old detail wrong none by s = says_appended plan r detail wrong (subst (λ o. AppendsDetail plan r o detail) none by) s
+
 pub begins_at_refusal : (files : PlanFiles) (r : PlanRefusal) (found : Found) (wrong words : List ℕ)
     → IsPlaceOf files.plan.bytes r (place_of found) → HelpsAs (help_of r) found → wrong ≢ []
-    → words ≡ words_at files (place_of found) (wrong ++ (codes "; " ++ help_text found))
+    → SaysWrong files.plan.bytes r wrong → words ≡ words_at files (place_of found) (wrong ++ (codes "; " ++ help_text found))
     → EndsWith (shown_text (codes "; " ++ help_text found)) words → BeginsAtRefusal files r words
-begins_at_refusal files r found wrong words is helps some says ends = record {
-  place = place_of found;
-  is = is;
-  begins = (_, (record { wrong = wrong; help = help_text found; some = some; is = refl }, says));
-  helps = ends_with_help r found words helps ends;
-}
+begins_at_refusal files r found wrong words is helps some says told ends =
+    let reason : IsReason (wrong ++ (codes "; " ++ help_text found)) =
+    record { wrong = wrong; help = help_text found; some = some; is = refl } in record {
+      place = place_of found;
+      is = is;
+      begins = (_, (record { reason = reason; says = says }, told));
+      helps = ends_with_help r found words helps ends;
+    }
 
 -- ---- the words of a run without inputs
 

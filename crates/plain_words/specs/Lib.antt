@@ -2,6 +2,7 @@ pub mod Positions
 pub mod Lines
 pub mod Places
 pub mod Helps
+pub mod RefusalTexts
 pub mod Strays
 pub mod Refusals
 pub mod States

@@ -16,6 +16,10 @@ shown_char c = if is_shown c then c else (if c == 9 || (c == 10 || c == 13) then
 abbrev pub shown_text : List ℕ → List ℕ
 shown_text text = encode_utf8_all (map shown_char (chars text))
 
+-- the words start with a text
+abbrev pub StartsWith : List ℕ → List ℕ → Type 0
+StartsWith text words = (rest : List ℕ) × (words ≡ text ++ rest)
+
 -- the words end with a text
 abbrev pub EndsWith : List ℕ → List ℕ → Type 0
 EndsWith text words = (front : List ℕ) × (words ≡ front ++ text)

@@ -49,7 +49,3 @@ pub record IsReason (text : List ℕ) : Type 0 where
   pub help : List ℕ
   pub some : wrong ≢ []
   pub is : text ≡ wrong ++ (codes "; " ++ help)
-
--- the words begin with this place, a colon and a space, and go on with a reason
-abbrev pub BeginsAt : PlanFiles → PlanPlace → List ℕ → Type 0
-BeginsAt files place words = (text : List ℕ) × (IsReason text × (words ≡ words_at files place text))

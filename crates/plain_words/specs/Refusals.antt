@@ -1,5 +1,5 @@
--- In which file of a plan a refusal stands, at which byte where its place is pinned to one, and how its words end.
-use Rattle.std.specs.Prelude.{◌≡◌, ℕ, List, ◌++◌, codes, map, Option, Some, None, IfSome, IsTrue, ⊤}
+-- In which file of a plan a refusal stands, at which byte where its place is pinned to one, and what its words say is wrong.
+use Rattle.std.specs.Prelude.{◌≡◌, ℕ, Bool, true, false, List, ◌++◌, codes, map, Option, Some, None, IfSome, IsTrue, ⊤}
 use Rattle.pap_reader.specs.declared.fault.Which.{Which}
 use Rattle.pap_reader.specs.declared.fault.Which.TheVariants as which
 use Rattle.pap_reader.specs.declared.fault.ReadFault.{ReadFault}
@@ -12,8 +12,9 @@ use Rattle.limits_file.specs.declared.fault.LimitsFault.TheVariants as limits
 use Rattle.pap_plan.specs.declared.refusal.PlanRefusal.{PlanRefusal}
 use Rattle.pap_plan.specs.declared.refusal.PlanRefusal.TheVariants as refusals
 use Rattle.pap_plan.specs.Acceptance.{IsRefused}
-use Rattle.plain_words.specs.Lines.{IsOneLine, EndsWith}
-use Rattle.plain_words.specs.Places.{PlanFiles, PlanPlace, in_plan, in_ranges, BeginsAt}
+use Rattle.plain_words.specs.Lines.{IsOneLine, StartsWith, EndsWith}
+use Rattle.plain_words.specs.Places.{PlanFiles, PlanPlace, in_plan, in_ranges, words_at, IsReason}
+use Rattle.plain_words.specs.RefusalTexts.{plan_refusal_text, limit_name_text, binding_text}
 use Rattle.plain_words.specs.Helps.{help_of}
 use Rattle.plain_words.specs.Strays.{IsStopByte}
 
@@ -68,12 +69,33 @@ IsPlaceOf plan (refusals.Bind name) place = IsInRanges place
 IsPlaceOf plan refusals.Memory place = ⊥
 IsPlaceOf plan _ place = IsInPlan place
 
--- the words begin with the place of this refusal, go on with a reason, and end with what helps where the refusal alone
+-- what is wrong starts with one text where the flowchart's file declares an INPUT of this name, and else with another
+pub record StartsByInput (plan name : List ℕ) (text : Bool → List ℕ) (wrong : List ℕ) : Type 0 where
+  pub input : DeclaresInput plan name → StartsWith (text true) wrong
+  pub none : ¬ (DeclaresInput plan name) → StartsWith (text false) wrong
+
+-- what is wrong starts with the text of this refusal of a plan whose flowchart's file has these bytes
+abbrev pub SaysWrong : List ℕ → PlanRefusal → List ℕ → Type 0
+SaysWrong plan (refusals.LimitName name) wrong = StartsByInput plan name (limit_name_text name) wrong
+SaysWrong plan (refusals.Bind name) wrong = StartsByInput plan name (binding_text name) wrong
+SaysWrong plan refusal wrong = StartsWith (plan_refusal_text refusal) wrong
+
+-- the text of a reason of this refusal
+pub record IsReasonOf (plan : List ℕ) (refusal : PlanRefusal) (text : List ℕ) : Type 0 where
+  pub reason : IsReason text
+  pub says : SaysWrong plan refusal reason.wrong
+
+-- the words begin with this place, a colon and a space, and go on with a reason of this refusal
+abbrev pub GivesReasonAt : PlanFiles → PlanPlace → PlanRefusal → List ℕ → Type 0
+GivesReasonAt files place refusal words =
+    (text : List ℕ) × (IsReasonOf files.plan.bytes refusal text × (words ≡ words_at files place text))
+
+-- the words begin with the place of this refusal, go on with its reason, and end with what helps where the refusal alone
 -- decides that
 pub record BeginsAtRefusal (files : PlanFiles) (refusal : PlanRefusal) (words : List ℕ) : Type 0 where
   pub place : PlanPlace
   pub is : IsPlaceOf files.plan.bytes refusal place
-  pub begins : BeginsAt files place words
+  pub begins : GivesReasonAt files place refusal words
   pub helps : IfSome (help_of refusal) (λ help. EndsWith (codes "; " ++ help) words)
 
 -- the words begin with a place in the range file, and go on with a reason

@@ -1,3 +1,4 @@
+pub mod DetailViews
 pub mod FoundViews
 pub mod SiteViews
 pub mod StopViews

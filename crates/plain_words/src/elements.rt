@@ -24,7 +24,7 @@ use pap_tree::{
 use plan_notes::{Element, Starts, element_name, read_notes};
 use std::alloc::{AllocError, Global};
 
-/// Where the elements of a plan's file are refused; what is wrong there is appended.
+/// Where the elements of a plan's file are refused; what stands there is appended.
 pub(crate) fn find_element(
     plan: TextFile<'_>,
     fault: &ReadFault,
@@ -37,10 +37,7 @@ pub(crate) fn find_element(
         ReadFault::Text { at } => find_text(plan, *at, told)?,
         ReadFault::Element { at } => find_misplaced(plan, *at, told)?,
         ReadFault::Attribute { at } => find_attribute(plan, *at, told)?,
-        ReadFault::Many { which } => {
-            write!(told, "{fault}")?;
-            return find_excess(plan, *which, told);
-        }
+        ReadFault::Many { which } => return find_excess(plan, *which, told),
         ReadFault::Memory => return Err(AllocError),
     };
     Ok(found)

@@ -37,6 +37,7 @@ mod quotes;
 mod range_file;
 mod ranges;
 mod reason;
+mod refusal_texts;
 mod remedies;
 mod section;
 mod signs;

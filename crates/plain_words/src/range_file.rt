@@ -1,6 +1,8 @@
 //! Where a range file is refused, by itself or beside its plan.
-ghost use Rattle.std.specs.Prelude.{◌≡◌, IfOk, true, false};
+ghost use Rattle.std.specs.Prelude.{◌≡◌, ◌++◌, IfOk, OnOk, true, false};
+ghost use Rattle.std.specs.String.{string_bytes};
 ghost use Rattle.plain_words.specs.Refusals.{IsPlaceOfLimits};
+ghost use Rattle.plain_words.specs.RefusalTexts.{limit_name_text, binding_text};
 ghost use Rattle.plain_words.specs.private.FoundViews.{place_of, IsOfPlan, IsOfRanges};
 ghost use Rattle.plain_words.specs.private.SiteViews.{declares_input};
 
@@ -8,6 +10,7 @@ use crate::entry_faults::find_first;
 use crate::entry_lines::entry_byte;
 use crate::found::Found;
 use crate::place::TextFile;
+use crate::refusal_texts::{write_binding, write_limit_name};
 use crate::sites::{Source, declaration_of, declares_input, named_byte};
 use crate::toml_causes::write_cause;
 use limits_file::LimitsFault;
@@ -15,7 +18,7 @@ use pap_tree::{Kind, Name};
 use range_faults::Section;
 use std::alloc::AllocError;
 
-/// Where a range file is refused by itself; what is wrong is appended.
+/// Where a range file is refused by itself; what is wrong with its keys, or what its reader says, is appended.
 pub(crate) fn find_entry(
     limits: TextFile<'_>,
     fault: &LimitsFault,
@@ -26,10 +29,7 @@ pub(crate) fn find_entry(
     match fault {
         LimitsFault::Toml => find_toml(limits, told),
         LimitsFault::Key { .. } | LimitsFault::Bound { .. } => find_first(limits, told),
-        LimitsFault::LimitsLong => {
-            write!(told, "{fault}")?;
-            Ok(Found::in_ranges(None))
-        }
+        LimitsFault::LimitsLong => Ok(Found::in_ranges(None)),
         LimitsFault::Memory(_) => Err(AllocError),
     }
 }
@@ -38,7 +38,6 @@ pub(crate) fn find_entry(
 fn find_toml(limits: TextFile<'_>, told: &mut String) -> Result<Found, AllocError>
     ensures { IfOk result (λ found. IsOfRanges found) }
 {
-    told.push_str("the range file is not valid TOML")?;
     match toml::table_from_slice(*told.allocator(), limits.bytes) {
         Ok(_) => Ok(Found::in_ranges(None)),
         Err(error) => {
@@ -64,42 +63,29 @@ pub(crate) fn find_limit_name(
         → IfOk result (λ found. IsOfPlan found) }
     ensures none { declares_input source.entry.elements.now name.now ≡ false
         → IfOk result (λ found. IsOfRanges found) }
+    ensures told { OnOk result (string_bytes told.new ≡ string_bytes told.old
+        ++ limit_name_text name.now (declares_input source.entry.elements.now name.now)) }
 {
-    if declares_input(source, name) {
-        write!(
-            told,
-            "the INPUT {name} has no entry [input.{name}] in the range file"
-        )?;
+    let declared = declares_input(source, name);
+    write_limit_name(told, name, declared)?;
+    if declared {
         let help = "add the entry with low, high and places";
         return Ok(Found::in_plan(named_byte(source, name)).with_help(help));
     }
-    write!(
-        told,
-        "the entry [input.{name}] is of no INPUT of the flowchart"
-    )?;
     let at = entry_byte(limits.bytes, Section::Input, name.as_str());
     Ok(Found::in_ranges(at).with_help("correct the name, or take the entry out"))
 }
 
-/// Where the range of an input stands that doesn't suit its type; that is appended.
-pub(crate) fn find_limit_kind(
-    source: Source<'_>,
-    limits: TextFile<'_>,
-    name: &Name,
-    told: &mut String,
-) -> Result<Found, AllocError>
-    ensures { IfOk result (λ found. IsOfRanges found) }
+/// Where the range of an input stands that doesn't suit its type.
+pub(crate) fn find_limit_kind(source: Source<'_>, limits: TextFile<'_>, name: &Name) -> Found
+    ensures { IsOfRanges result }
 {
-    write!(
-        told,
-        "the range of the entry [input.{name}] doesn't suit the type of the INPUT {name}"
-    )?;
     let at = entry_byte(limits.bytes, Section::Input, name.as_str());
     let rule = match declaration_of(source, name) {
         Some(found) => kind_rule(found.declared.kind),
         None => "see its type",
     };
-    Ok(Found::in_ranges(at).with_help(rule))
+    Found::in_ranges(at).with_help(rule)
 }
 
 /// Which ranges suit a type.
@@ -121,20 +107,16 @@ pub(crate) fn find_binding(
     name: &Name,
     told: &mut String,
 ) -> Result<Found, AllocError>
-    ensures { IfOk result (λ found. IsOfRanges found) }
+    ensures place { IfOk result (λ found. IsOfRanges found) }
+    ensures told { OnOk result (string_bytes told.new ≡ string_bytes told.old
+        ++ binding_text name.now (declares_input source.entry.elements.now name.now)) }
 {
+    let declared = declares_input(source, name);
+    write_binding(told, name, declared)?;
     let at = entry_byte(limits.bytes, Section::Bind, name.as_str());
-    let help = if declares_input(source, name) {
-        write!(
-            told,
-            "the entry [bind.{name}] names no OUTPUT of the flowchart"
-        )?;
+    let help = if declared {
         "correct the name of the output"
     } else {
-        write!(
-            told,
-            "the entry [bind.{name}] is of no INPUT of the flowchart"
-        )?;
         "correct the name of the entry, or take it out"
     };
     Ok(Found::in_ranges(at).with_help(help))

@@ -8,7 +8,7 @@ use Rattle.plain_words.proofs.plan.find_refusal.Goals as goal
 
 pub returns-in-Some-clause-place : goal.returns-in-Some-clause-place
 returns-in-Some-clause-place c =
-    subst (IsPlaceOf c.args.plan.bytes.now c.args.refusal.now) (sym c.with_help.ensures.place) c.in_ok-found.ensures
+    subst (IsPlaceOf c.args.plan.bytes.now c.args.refusal.now) (sym c.with_help.ensures.place) c.in_ok-found.ensures.place
 
 pub returns-in-Some-clause-help : goal.returns-in-Some-clause-help
 returns-in-Some-clause-help c =
