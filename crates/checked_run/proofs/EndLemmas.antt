@@ -1,18 +1,15 @@
 -- The run of MAIN is that of the plan.
-use Rattle.std.proofs.Common.{◌≡◌, ℕ, suc, ◌+◌, List, [], ◌∷◌, ◌++◌, length, map, take, drop, append-nil, Some, refl, sym, ap, ap₂, ◌∙◌, subst, arith}
+use Rattle.std.proofs.Common.{◌≡◌, ℕ, List, [], ◌∷◌, ◌++◌, length, map, take, drop, append-nil, refl, sym, ap, ◌∙◌, subst, arith}
 use Rattle.std.proofs.lemmas.List.{drop_all, take_all}
 use Rattle.scaled_decimal.specs.Decimals.{Decimal}
 use Rattle.pap_tree.specs.declared.plan.PlanText.{PlanText}
 use Rattle.pap_tree.specs.Flowchart.{Body, flowchart_of}
 use Rattle.pap_tree.specs.Names.{main_name}
-use Rattle.pap_tree.specs.Statements.{written}
 use Rattle.pap_types.specs.Checks.{IsWellTyped}
 use Rattle.pap_types.specs.Counts.{IsWithinCounts}
 use Rattle.pap_types.specs.Limits.{longest_chain}
 use Rattle.pap_types.specs.Meaning.{AreInputs, calls_in, start}
-use Rattle.pap_types.specs.Runs.{after, IsSafeBody}
 use Rattle.pap_types.specs.Scopes.{scope_of}
-use Rattle.pap_types.specs.Values.{Env}
 use Rattle.pap_types.proofs.Laws.{has_types}
 use Rattle.pap_types.specs.private.ScopeViews.{variables_in}
 use Rattle.checked_run.specs.declared.failure.RunFailure.{RunFailure}

@@ -1,5 +1,5 @@
 -- A statement and those that follow it: where they lead, and where they fail.
-use Rattle.std.proofs.Common.{◌≡◌, ℕ, zero, suc, ◌+◌, ◌-◌, ◌<◌, List, [], ◌∷◌, Bool, true, false, Option, Some, None, refl, sym, ap, ◌∙◌, subst, arith, true≢false, inl, inr, ◌⊎◌}
+use Rattle.std.proofs.Common.{◌≡◌, ℕ, zero, suc, ◌+◌, ◌-◌, ◌<◌, List, Bool, true, false, Option, Some, None, refl, sym, ap, ◌∙◌, subst, arith, true≢false, inl, inr}
 use Rattle.std.specs.Prelude.{if◌then◌else◌}
 use Rattle.std.specs.Option.{option_and_then}
 use Rattle.std.proofs.lemmas.Bool.{cases_Bool}
@@ -21,7 +21,7 @@ use Rattle.pap_types.specs.private.ScopeViews.{scope_in}
 use Rattle.checked_run.specs.declared.failure.RunFailure.{RunFailure}
 use Rattle.checked_run.specs.declared.failure.RunFailure.TheVariants.{Chain}
 use Rattle.checked_run.specs.declared.statements.Spot.{Spot}
-use Rattle.checked_run.specs.RunFailures.{EvaluatesTo, ExpressionFails, RunsTo, ExecutesTo, BodyFails, CallsFail}
+use Rattle.checked_run.specs.RunFailures.{EvaluatesTo, RunsTo, ExecutesTo, BodyFails, CallsFail}
 use Rattle.run_values.specs.private.ValueViews.{values_in, IsSized}
 use Rattle.checked_run.specs.private.WalkViews.{calls_by, RunsFromTo, FailsFrom, CanRun}
 use Rattle.pap_tree.proofs.Laws.{written-then}

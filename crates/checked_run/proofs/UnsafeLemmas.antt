@@ -1,6 +1,6 @@
 -- Where a run fails its inputs aren't safe: what fails has not_held value, or isn't safe.
-use Rattle.std.proofs.Common.{◌≡◌, ℕ, zero, suc, ◌+◌, List, Bool, true, false, Option, Some, None, refl, sym, ap, ◌∙◌, subst, true≢false, inl, inr, ◌⊎◌}
-use Rattle.std.specs.Prelude.{IsSome, IsTrue, if◌then◌else◌}
+use Rattle.std.proofs.Common.{◌≡◌, ℕ, zero, suc, ◌+◌, List, Bool, true, false, Option, Some, None, refl, sym, ◌∙◌, subst, true≢false, inl, inr}
+use Rattle.std.specs.Prelude.{if◌then◌else◌}
 use Rattle.std.specs.Option.{option_map, option_and_then}
 use Rattle.std.proofs.lemmas.Option.{option_and_then_some, none-some}
 use Rattle.scaled_decimal.specs.Decimals.{Decimal, numerator_of}
@@ -16,8 +16,7 @@ use Rattle.pap_types.specs.Kinds.{kind_of}
 use Rattle.pap_types.specs.Limits.{longest_chain}
 use Rattle.pap_types.specs.Meaning.{calls_in, start, IsSafeFor}
 use Rattle.pap_types.specs.Operations.{is_zero, of_one, of_two}
-use Rattle.pap_types.specs.Routines.{body_named}
-use Rattle.pap_types.specs.Runs.{Calls, after, assigned, IsSafeBody, calls_of}
+use Rattle.pap_types.specs.Runs.{Calls, after, assigned, calls_of}
 use Rattle.pap_types.specs.Safety.{OneFits, TwoFits}
 use Rattle.pap_types.specs.Scopes.{Scope, scope_of, table_in}
 use Rattle.pap_types.specs.Values.{Env, value, goes_right}
@@ -26,7 +25,6 @@ use Rattle.checked_run.specs.declared.cause.FailureCause.TheVariants.{Wide, Scal
 use Rattle.checked_run.specs.declared.failure.RunFailure.{RunFailure}
 use Rattle.checked_run.specs.OperationFailures.{GivesFewPlaces, OneFails, TwoFails}
 use Rattle.checked_run.specs.RunFailures.{EvaluatesTo, FailsAt, ExpressionFails, RunsTo, ExecutesTo, BodyFails, CallsFail, RunFails}
-use Rattle.checked_run.proofs.ExpressionLemmas.{some_same}
 
 none_some : {A : Type 0} (o : Option A) (a : A) → o ≡ None → o ≡ Some a → ⊥
 none_some o a n s = none-some a (sym n ∙ s)

@@ -1,6 +1,6 @@
 -- When an operation fails on the values of its operands, and why: it has no value (Divisor), its result has more than 30 places
 -- (Scale), or a number that it works with is beyond its limit (Wide). At most one of these holds.
-use Rattle.std.specs.Prelude.{◌≡◌, ℕ, ◌+◌, ◌≤◌, Option, None, IsSome, ⊤}
+use Rattle.std.specs.Prelude.{◌≡◌, ℕ, ◌+◌, ◌≤◌, None, IsSome, ⊤}
 use Rattle.scaled_decimal.specs.Decimals.{Decimal, numerator_of, scale_of}
 use Rattle.scaled_decimal.specs.Limits.{most_places}
 use Rattle.scaled_decimal.specs.WorkingNumbers.{IsDivisorPlaces}

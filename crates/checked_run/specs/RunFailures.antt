@@ -1,6 +1,6 @@
 -- Where a run fails: the first node to which it comes, in the order of evaluation, that has no value or works with a number beyond its
 -- limit. What comes before it is safe and has its values by the meaning of the plan.
-use Rattle.std.specs.Prelude.{◌≡◌, ℕ, zero, suc, ◌+◌, ◌⊎◌, IsTrue, true, false, List, Option, Some, None}
+use Rattle.std.specs.Prelude.{◌≡◌, ℕ, zero, suc, ◌+◌, ◌⊎◌, IsTrue, true, false, List, Some, None}
 use Rattle.scaled_decimal.specs.Decimals.{Decimal, numerator_of}
 use Rattle.scaled_decimal.specs.WholeNumbers.{item_at}
 use Rattle.pap_tree.specs.Term.{Term, leaf, item, one, two, choice}

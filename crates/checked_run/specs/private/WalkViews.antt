@@ -9,7 +9,6 @@ use Rattle.pap_tree.specs.private.TreeViews.{methods_in}
 use Rattle.pap_types.specs.Counts.{IsSmallTerm, AreSmallTerms}
 use Rattle.pap_types.specs.Runs.{Calls, calls_of}
 use Rattle.pap_types.specs.Typing.{IsTypedTerm, IsTypedBody, IsMethod}
-use Rattle.pap_types.specs.Values.{Env}
 use Rattle.pap_types.specs.private.ScopeViews.{scope_in}
 use Rattle.checked_run.specs.declared.failure.RunFailure.{RunFailure}
 use Rattle.checked_run.specs.declared.statements.Spot.{Spot}

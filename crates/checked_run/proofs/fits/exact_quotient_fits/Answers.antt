@@ -2,7 +2,6 @@ use Rattle.std.proofs.Common.{◌≡◌, ◌*ℤ◌, sym, ap, ◌∙◌, subst, 
 use Rattle.std.specs.Int.{w128}
 use Rattle.std.proofs.lemmas.Int.{to_z-of_z}
 use Rattle.scaled_decimal.specs.Decimals.{numerator_of, ten_to}
-use Rattle.checked_run.specs.private.FitViews.{IsHeld}
 use Rattle.checked_run.proofs.FitLemmas.{exact_exactly}
 use Rattle.checked_run.proofs.fits.exact_quotient_fits.Goals as goal
 
