@@ -15,7 +15,7 @@ LAYERS = [
     ("pay runs", ["pay_run", "saved_items", "carry_bindings", "plan_calendar", "payroll_records"]),
     ("accepted flowcharts", ["pap_plan", "plan_text", "interval_analysis", "pap_compiler"]),
     ("what flowcharts mean", ["run_values", "interval_walk", "call_order", "pap_types", "pap_machine"]),
-    ("texts", ["pap_expr", "expr_grammar", "expr_tokens", "plan_notes", "pap_reader", "limits_file"]),
+    ("texts", ["pap_expr", "expr_grammar", "expr_tokens", "plan_notes", "pap_reader", "range_faults", "limits_file"]),
     ("numbers and trees", ["interval_num", "pap_tree", "scaled_decimal"]),
     ("below all", ["messages", "outside", "rising_lists", "steps"]),
 ]

@@ -128,11 +128,11 @@ on_long : (n : ℕ) (plan limits : NamedText) (words : List ℕ)
     → BeginsAtRefusal (both (front n plan) limits) too_many words → BeginsAtRefusal (both plan limits) too_many words
 on_long n plan limits words h =
     let begins = subst (λ p. GivesReasonAt (both (front n plan) limits) p too_many words) h.is h.begins in record {
-  place = in_plan None;
-  is = refl;
-  begins = (begins.0, (record { reason = begins.1.0.reason; says = begins.1.0.says }, begins.1.1));
-  helps = h.helps;
-}
+      place = in_plan None;
+      is = refl;
+      begins = (begins.0, (record { reason = begins.1.0.reason; says = begins.1.0.says }, begins.1.1));
+      helps = h.helps;
+    }
 
 pub begins_plan : (n : ℕ) → 1048576 < n → (plan limits : NamedText) (bytes : List ℕ) (r : PlanRefusal) (words : List ℕ)
     → IsRefused (take n plan.bytes) bytes r → BeginsAtRefusal (both (front n plan) limits) r words

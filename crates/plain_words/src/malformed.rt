@@ -1,6 +1,6 @@
 //! Why a text stops being a tag outside of the values of its attributes.
-use crate::quotes::{word, write_line, write_quoted};
 use crate::lookalikes::{begins_with_other_quote, other_space};
+use crate::quotes::{word, write_line, write_quoted};
 use pap_tree::is_white;
 use std::alloc::AllocError;
 

@@ -6,9 +6,9 @@ ghost use Rattle.plain_words.specs.Strays.{ReadsValue, is_no_element, goes_on_as
 ghost use Rattle.plain_words.specs.private.StopViews.{StopsAs};
 
 use crate::counting::line_number;
+use crate::lookalikes::has_other_quote;
 use crate::malformed::malformed_at;
 use crate::quotes::{first_line, word, write_line, write_quoted};
-use crate::lookalikes::has_other_quote;
 use pap_reader::{Element, ValueFront, read_byte, read_value_front, split_letters};
 use std::alloc::AllocError;
 
