@@ -100,7 +100,8 @@ pub record BeginsAtRefusal (files : PlanFiles) (refusal : PlanRefusal) (words : 
 
 -- the words begin with a place in the range file, and go on with a reason
 abbrev pub BeginsInRanges : PlanFiles → List ℕ → Type 0
-BeginsInRanges files words = (at : Option ℕ) × BeginsAt files (in_ranges at) words
+BeginsInRanges files words =
+    (at : Option ℕ) × (text : List ℕ) × (IsReason text × (words ≡ words_at files (in_ranges at) text))
 
 -- what is said of a refused plan: one line that begins with the place of the refusal in the file in which it stands,
 -- and goes on with a reason
