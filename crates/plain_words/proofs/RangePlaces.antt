@@ -11,5 +11,6 @@ pub begins_in_ranges : (files : PlanFiles) (found : Found) (wrong words : List �
 begins_in_ranges files found wrong words of some says =
     let text = wrong ++ (codes "; " ++ help_text found) in (
       found.at,
-      (text, (record { wrong = wrong; help = help_text found; some = some; is = refl }, says ∙ ap (λ k. words_at files (place_in k found.at) text) of)),
+      text,
+      (record { wrong = wrong; help = help_text found; some = some; is = refl }, says ∙ ap (λ k. words_at files (place_in k found.at) text) of),
     )
