@@ -235,8 +235,8 @@ beside_found plan limits f all read h = record { flowchart = f; ranges = h.0; re
 
 pub stage_told : (files : PlanFiles) (r : PlanRefusal) (further told : List PlanRefusal) (text : List ℕ) → is_of_entries r ≡ false → told ≡ further
     → AreAllFaults files.plan.bytes files.ranges.bytes r (r ∷ further) → TellsEach (IsPlanLine files) (r ∷ told) text → TellsStage files r text
-stage_told files r further told text no same all h =
-    subst (λ b. MatchBool b (TellsEntryFaults files text) (TellsStageFaults files r text)) (sym no) (record {
+stage_told files r further told text apart same all h =
+    subst (λ b. MatchBool b (TellsEntryFaults files text) (TellsStageFaults files r text)) (sym apart) (record {
       further = further;
       are = all;
       tells = subst (λ l. TellsEach (IsPlanLine files) (r ∷ l) text) same h;

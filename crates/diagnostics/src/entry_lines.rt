@@ -2,6 +2,7 @@
 ghost use Rattle.std.specs.Prelude.{IfOk};
 ghost use Rattle.std.specs.String.{string_bytes};
 ghost use Rattle.toml.specs.View.{table_view};
+ghost use Rattle.limits_file.specs.RangeFiles.{IsToml};
 ghost use Rattle.plain_words.specs.Places.{files_of};
 ghost use Rattle.diagnostics.specs.FaultLines.{IsEntryLine, TellsEach};
 ghost use Rattle.diagnostics.specs.FurtherFaults.{TellsEntryFaults};
@@ -24,11 +25,21 @@ pub(crate) fn entry_lines(
     ensures { IfOk result
         (λ text. TellsEntryFaults (files_of plan.entry limits.entry) (string_bytes text)) }
 {
-    let Some(table) = read_table(alloc, limits.bytes)? else {
-        unreachable!()
-    };
+    let table = table_of(alloc, limits.bytes)?;
     let faults = file_faults(alloc, &table)?;
     lines_of(alloc, plan, limits, &table, &faults)
+}
+
+/// The table of a range file that is TOML.
+fn table_of(alloc: Global, limits: &[u8]) -> Result<Table, AllocError>
+    requires { HasTable limits.now }
+    ensures { IfOk result (λ table. IsToml limits.now (table_view table)) }
+{
+    match read_table(alloc, limits) {
+        Ok(Some(table)) => Ok(table),
+        Ok(None) => unreachable!(),
+        Err(failed) => Err(failed),
+    }
 }
 
 /// The words of the first 20 of some faults, and how many more there are.

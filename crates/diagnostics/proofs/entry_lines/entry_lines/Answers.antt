@@ -7,12 +7,9 @@ use Rattle.diagnostics.specs.FurtherFaults.{TellsEntryFaults}
 use Rattle.diagnostics.proofs.EntryLemmas.{tells_entries}
 use Rattle.diagnostics.proofs.entry_lines.entry_lines.Goals as goal
 
-pub unreachable-requires : goal.unreachable-requires
-unreachable-requires c = c.in_default.ensures c.requires.0 c.requires.1
-
 pub returns : goal.returns
 returns c =
     let files = files_of c.args.plan c.args.limits in
     IfOk-weaker c.lines_of.result (λ text. TellsEach (IsEntryLine files) c.deref.result.now (string_bytes text)) (λ text. TellsEntryFaults files (string_bytes text))
-    (λ text h. tells_entries files (table_view c.in-Some.table) c.in_ok-faults.faults.items c.deref.result.now (string_bytes text) c.deref.ensures.value
-    c.in-Some.ensures c.in_ok-faults.ensures h) c.lines_of.ensures
+    (λ text h. tells_entries files (table_view c.in_ok-table.table) c.in_ok-faults.faults.items c.deref.result.now (string_bytes text) c.deref.ensures.value
+    c.in_ok-table.ensures c.in_ok-faults.ensures h) c.lines_of.ensures
