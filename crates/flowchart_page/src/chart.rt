@@ -1,6 +1,7 @@
 //! The whole page.
 ghost use Rattle.std.specs.Prelude.{◌≡◌, ◌++◌, [], Some, map, option_map, IfOk, OnOk, string_bytes};
 ghost use Rattle.std.specs.List.{flat_map};
+ghost use Rattle.pap_reader.specs.Contents.{AreRead};
 ghost use Rattle.pap_reader.specs.Trees.{tree_of};
 ghost use Rattle.flowchart_methods.specs.Chapters.{chapter_captions};
 ghost use Rattle.flowchart_methods.specs.Turns.{AddsInTurn};
@@ -26,10 +27,10 @@ use flowchart_methods::{
     write_paragraphs,
 };
 use limits_file::{Limits, LimitsFault, read_limits};
-use pap_reader::{Elements, ReadFault, read_elements};
+use pap_reader::{Elements, ReadFault, Tokens, elements_of, read_tokens};
 use pap_tree::Name;
 use plain_words::TextFile;
-use plan_notes::{Element, Notes, read_notes};
+use plan_notes::{Element, Notes, notes_of};
 use std::alloc::{AllocError, Global};
 
 /// A page, and why the plan is refused.
@@ -236,7 +237,6 @@ fn words_of(verdict: Verdict) -> Option<String>
 }
 
 /// The page of a plan that is judged.
-#[tactic(auto, using(crate::proofs::PageLemmas::read_page, crate::proofs::PageLemmas::unread_page))]
 fn write_chart(
     alloc: Global,
     plan: TextFile<'_>,
@@ -249,8 +249,29 @@ fn write_chart(
         (option_map (λ file. file.bytes.now) limits.entry) (finding_of verdict.now)
         (verdict_text verdict.now) page.items) }
 {
-    match read_elements(alloc, plan.bytes) {
-        Ok(elements) => Ok(read_page(alloc, plan, limits, verdict, run, &elements)?),
+    let tokens = read_tokens(alloc, plan.bytes)?;
+    let page = page_of_tokens(alloc, plan, limits, verdict, run, &tokens)?;
+    Ok(page)
+}
+
+/// The same of a plan whose tokens are read.
+#[tactic(auto, using(crate::proofs::PageLemmas::read_page, crate::proofs::PageLemmas::unread_page))]
+fn page_of_tokens(
+    alloc: Global,
+    plan: TextFile<'_>,
+    limits: Option<TextFile<'_>>,
+    verdict: &Verdict,
+    run: Option<RunShown<'_>>,
+    tokens: &Tokens<'_>,
+) -> Result<Vec<u8>, AllocError>
+    requires { AreRead plan.bytes.now tokens.now }
+    ensures { IfOk result (λ page. ShowsVerdict
+        (option_map run_parts run.entry) plan.entry.bytes.now
+        (option_map (λ file. file.bytes.now) limits.entry) (finding_of verdict.now)
+        (verdict_text verdict.now) page.items) }
+{
+    match elements_of(alloc, plan.bytes, tokens) {
+        Ok(elements) => Ok(read_page(alloc, plan, limits, verdict, run, &elements, tokens)?),
         Err(ReadFault::Memory) => Err(AllocError),
         Err(_) => Ok(empty_page(alloc, plan.name, verdict, run)?),
     }
@@ -264,13 +285,15 @@ fn read_page(
     verdict: &Verdict,
     run: Option<RunShown<'_>>,
     elements: &Elements,
+    tokens: &Tokens<'_>,
 ) -> Result<Vec<u8>, AllocError>
+    requires { AreRead plan.bytes.now tokens.now }
     ensures { IfOk result (λ page. ShowsTree
         (option_map run_parts run.entry) plan.entry.bytes.now
         (option_map (λ file. file.bytes.now) limits.entry) (finding_of verdict.now)
         (verdict_text verdict.now) (tree_of elements.now) page.items) }
 {
-    let notes = read_notes(alloc, plan.bytes)?;
+    let notes = notes_of(alloc, tokens)?;
     let limits = limits_of(alloc, limits)?;
     let source = Source {
         file: plan.name,
