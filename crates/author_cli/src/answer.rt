@@ -1,6 +1,7 @@
 //! What is written on a request.
 ghost use Rattle.std.specs.Prelude.{◌≡◌, IfOk, None, option_map};
 ghost use Rattle.outside.specs.Causes.{Caused};
+ghost use Rattle.pap_reader.specs.Contents.{AreRead};
 ghost use Rattle.pap_reader.specs.Elements.{IsFault};
 ghost use Rattle.plain_words.specs.Places.{named_text};
 ghost use Rattle.author_cli.specs.Words.{two_plans, with_limits, chart, chart_within, ranges, compared, traced, drawn, example, linted, covered};
@@ -22,11 +23,11 @@ use crate::traced::trace_plan;
 use crate::words::{Medium, NamedPlans, Request};
 use outside::{FileAnswer, Files, Sink, put_all};
 use pap_plan::PlanRefusal;
-use pap_reader::{LONGEST_PLAN, ReadFault, read_elements};
+use pap_reader::{LONGEST_PLAN, ReadFault, Tokens, elements_of, read_tokens};
 use payroll_records::Values;
 use plain_words::{TextFile, plan_words};
 use plan_answers::{read_both, refused};
-use plan_notes::read_notes;
+use plan_notes::notes_of;
 use range_draft::draft_ranges;
 use std::alloc::{AllocError, Global};
 
@@ -370,13 +371,27 @@ fn answer_covered<F: Files>(
 }
 
 /// The range file that begins with a plan's inputs, or the line of its refusal where the bytes aren't read as a plan.
-#[tactic(auto, using(crate::proofs::UnreadLemmas::few_inputs))]
 fn ranges_of(alloc: Global, plan: TextFile<'_>) -> Result<Answer, AllocError>
     ensures { IfOk result (λ answer. IsRanges (named_text plan.entry) (answer_of answer)) }
 {
-    match read_elements(alloc, plan.bytes) {
+    let tokens = read_tokens(alloc, plan.bytes)?;
+    let answer = ranges_of_tokens(alloc, plan, &tokens)?;
+    Ok(answer)
+}
+
+/// The same of a plan whose tokens are read.
+#[tactic(auto, using(crate::proofs::UnreadLemmas::few_inputs))]
+fn ranges_of_tokens(
+    alloc: Global,
+    plan: TextFile<'_>,
+    tokens: &Tokens<'_>,
+) -> Result<Answer, AllocError>
+    requires { AreRead plan.bytes.now tokens.now }
+    ensures { IfOk result (λ answer. IsRanges (named_text plan.entry) (answer_of answer)) }
+{
+    match elements_of(alloc, plan.bytes, tokens) {
         Ok(elements) => {
-            let notes = read_notes(alloc, plan.bytes)?;
+            let notes = notes_of(alloc, tokens)?;
             let draft = draft_ranges(alloc, &elements, &notes)?;
             Ok(Answer {
                 text: draft.into_bytes(),
