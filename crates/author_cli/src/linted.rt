@@ -1,6 +1,7 @@
 //! What a plan has in vain.
-ghost use Rattle.std.specs.Prelude.{◌≡◌, IfOk};
+ghost use Rattle.std.specs.Prelude.{◌≡◌, IfOk, map};
 ghost use Rattle.pap_tree.specs.Flowchart.{flowchart_of};
+ghost use Rattle.interval_analysis.specs.Answers.{named_range};
 ghost use Rattle.interval_analysis.specs.Surveys.{AreOpen, AreReached};
 ghost use Rattle.pap_plan.specs.BoundPlans.{IsBoundPlan};
 ghost use Rattle.plain_words.specs.Places.{named_text};
@@ -9,7 +10,7 @@ ghost use Rattle.author_cli.specs.Linted.{IsLinted, IsFindingsText, findings_wor
 
 use crate::answer::Answer;
 use crate::traced::answer_refused;
-use flowchart_findings::{Finding, findings, findings_text};
+use flowchart_findings::{Finding, add_carry_findings, findings, findings_text};
 use interval_analysis::{Survey, survey};
 use pap_plan::{BoundPlan, PlanRefusal, read_bound};
 use plain_words::TextFile;
@@ -59,10 +60,13 @@ fn tell_findings(
     requires reached { AreReached (flowchart_of bound.now.typed) bound.now.limits survey.now.reached }
     requires exits { AreOpen (flowchart_of bound.now.typed) bound.now.limits survey.now.exits }
     ensures { IfOk result (λ answer. IsFindingsText (named_text plan.entry)
-        (flowchart_of bound.now.typed) bound.now.limits answer.text.items (words_of answer.reason)) }
+        (flowchart_of bound.now.typed) bound.now.limits
+        (map named_range survey.now.verdict.outputs.items)
+        answer.text.items (words_of answer.reason)) }
 {
     let notes = read_notes(alloc, plan.bytes)?;
-    let found = findings(alloc, &bound.typed, &survey.reached, &survey.exits)?;
+    let mut found = findings(alloc, &bound.typed, &survey.reached, &survey.exits)?;
+    add_carry_findings(&mut found, &bound.limits, &survey.verdict.outputs)?;
     let text = findings_text(alloc, plan, &notes.marks, &found)?;
     let reason = findings_words(alloc, &found)?;
     Ok(Answer { text, reason })

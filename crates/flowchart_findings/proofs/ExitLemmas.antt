@@ -14,7 +14,7 @@ use Rattle.flowchart_findings.specs.declared.finding.Group.{Group}
 use Rattle.flowchart_findings.specs.declared.finding.Group.TheVariants.{Input, Output, Internal, Constant}
 use Rattle.flowchart_findings.specs.declared.finding.DeclarationSite.{DeclarationSite}
 use Rattle.flowchart_findings.specs.declared.finding.Finding.{Finding}
-use Rattle.flowchart_findings.specs.declared.finding.Finding.TheVariants.{Unread, Unassigned, DeadMethod, DeadStatement, UnusedValue, NeverTrue, NeverFalse}
+use Rattle.flowchart_findings.specs.declared.finding.Finding.TheVariants.{Unread, Unassigned, DeadMethod, DeadStatement, UnusedValue, NeverTrue, NeverFalse, LongCarry}
 use Rattle.flowchart_findings.specs.Uses.{is_read, is_assigned, is_unused}
 use Rattle.flowchart_findings.specs.Findings.{is_unread, is_unassigned, declaration_site, declaration_finding, declaration_findings, declared_findings, begins_dead, dead_first, MethodFacts, known_site, dead_findings, value_findings, never_true_findings, never_false_findings, test_findings, body_findings, method_findings, is_dead_in, is_closed_exit, method_facts, methods_findings, findings_of}
 use Rattle.flowchart_findings.specs.NeverExecuted.{told_exit, IsNeverTaken, AreNeverTaken}
@@ -182,6 +182,7 @@ module _ (P : ExitPlace → Type 0) where
       exit_then (NeverTrue site first) (site.method, site.statement, true) ds (λ p. p) h (each_exit ds)
   each_exit (NeverFalse site first ∷ ds) h =
       exit_then (NeverFalse site first) (site.method, site.statement, false) ds (λ p. p) h (each_exit ds)
+  each_exit (LongCarry site input places takes ∷ ds) h = All-cons HasExit (LongCarry site input places takes) ds tt (each_exit ds h)
 
 module _ (f : Flowchart) (inputs : List Decimal) (exits : BTreeSet ExitPlace) (all : HaveTaken f inputs exits) where
   closed_never : (q : ExitPlace) → is_closed_exit exits q ≡ true → IsNeverTaken f inputs q

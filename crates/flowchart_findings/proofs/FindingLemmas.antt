@@ -24,7 +24,7 @@ use Rattle.flowchart_findings.specs.private.SetViews.{HasNames, HaveNames, read_
 use Rattle.flowchart_findings.specs.private.StatementViews.{AddsFindings}
 
 -- the rest of a list from an item on
-from_item : {A : Type 0} (xs : List A) (i : ℕ) (x : A) → x ≡ get_or xs i x → i < length xs → drop i xs ≡ x ∷ drop (i + 1) xs
+pub from_item : {A : Type 0} (xs : List A) (i : ℕ) (x : A) → x ≡ get_or xs i x → i < length xs → drop i xs ≡ x ∷ drop (i + 1) xs
 from_item xs i x is lt = drop_more xs i x lt ∙ ap (λ y. y ∷ drop (i + 1) xs) (sym is)
 
 -- one more declaration

@@ -1,3 +1,4 @@
+mod CarryLemmas
 mod CursorLemmas
 mod ExitLemmas
 mod FindingLemmas

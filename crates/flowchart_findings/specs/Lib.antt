@@ -1,3 +1,4 @@
+pub mod Carries
 pub mod ClosedExits
 pub mod Findings
 pub mod NeverExecuted

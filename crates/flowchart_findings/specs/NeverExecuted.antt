@@ -7,7 +7,7 @@ use Rattle.pap_types.specs.Scopes.{scope_of}
 use Rattle.interval_walk.specs.Visits.{Execution, RunExecutes, TakesExit}
 use Rattle.interval_analysis.specs.Surveys.{StatementPlace, ExitPlace, exit_statement}
 use Rattle.flowchart_findings.specs.declared.finding.Finding.{Finding}
-use Rattle.flowchart_findings.specs.declared.finding.Finding.TheVariants.{Unread, Unassigned, DeadMethod, DeadStatement, UnusedValue, NeverTrue, NeverFalse}
+use Rattle.flowchart_findings.specs.declared.finding.Finding.TheVariants.{Unread, Unassigned, DeadMethod, DeadStatement, UnusedValue, NeverTrue, NeverFalse, LongCarry}
 
 -- ---- statements
 
@@ -21,6 +21,7 @@ idle_place (DeadStatement site) = Some (site.method, site.statement)
 idle_place (UnusedValue site x) = None
 idle_place (NeverTrue site first) = option_map (λ at. (site.method, at)) first
 idle_place (NeverFalse site first) = option_map (λ at. (site.method, at)) first
+idle_place (LongCarry site input places takes) = None
 
 -- the run on these inputs never executes the statement
 abbrev pub IsNeverExecuted : Flowchart → List Decimal → StatementPlace → Type 0
@@ -41,6 +42,7 @@ told_exit (DeadStatement site) = None
 told_exit (UnusedValue site x) = None
 told_exit (NeverTrue site first) = Some (site.method, site.statement, true)
 told_exit (NeverFalse site first) = Some (site.method, site.statement, false)
+told_exit (LongCarry site input places takes) = None
 
 -- the run on these inputs never takes the exit
 abbrev pub IsNeverTaken : Flowchart → List Decimal → ExitPlace → Type 0

@@ -12,7 +12,7 @@ use Rattle.flowchart_findings.specs.declared.finding.Group.TheVariants.{Input, O
 use Rattle.flowchart_findings.specs.declared.finding.DeclarationSite.{DeclarationSite}
 use Rattle.flowchart_findings.specs.declared.finding.StatementSite.{StatementSite}
 use Rattle.flowchart_findings.specs.declared.finding.Finding.{Finding}
-use Rattle.flowchart_findings.specs.declared.finding.Finding.TheVariants.{Unread, Unassigned, DeadMethod, DeadStatement, UnusedValue, NeverTrue, NeverFalse}
+use Rattle.flowchart_findings.specs.declared.finding.Finding.TheVariants.{Unread, Unassigned, DeadMethod, DeadStatement, UnusedValue, NeverTrue, NeverFalse, LongCarry}
 
 -- the bytes at which the start tags that are looked for begin, in the order of the file
 abbrev pub tag_bytes : Starts → List Mark → List ℕ
@@ -66,3 +66,4 @@ finding_byte places (DeadStatement site) = statement_byte places site
 finding_byte places (UnusedValue site x) = statement_byte places site
 finding_byte places (NeverTrue site first) = statement_byte places site
 finding_byte places (NeverFalse site first) = statement_byte places site
+finding_byte places (LongCarry site input most takes) = declaration_byte places site

@@ -1,12 +1,13 @@
 -- The text of findings: a line for each.
 use Rattle.std.specs.Prelude.{ℕ, List, [], ◌++◌, codes, Option, Some, None}
+use Rattle.std.specs.Fmt.{decimal}
 use Rattle.std.specs.List.{flat_map}
 use Rattle.plan_notes.specs.declared.tag.Mark.{Mark}
 use Rattle.plain_words.specs.Places.{NamedText, place_text}
 use Rattle.flowchart_findings.specs.declared.finding.Group.{Group}
 use Rattle.flowchart_findings.specs.declared.finding.Group.TheVariants.{Input, Output, Internal, Constant}
 use Rattle.flowchart_findings.specs.declared.finding.Finding.{Finding}
-use Rattle.flowchart_findings.specs.declared.finding.Finding.TheVariants.{Unread, Unassigned, DeadMethod, DeadStatement, UnusedValue, NeverTrue, NeverFalse}
+use Rattle.flowchart_findings.specs.declared.finding.Finding.TheVariants.{Unread, Unassigned, DeadMethod, DeadStatement, UnusedValue, NeverTrue, NeverFalse, LongCarry}
 use Rattle.flowchart_findings.specs.Places.{TagBytes, tag_places, finding_byte}
 
 -- what a declaration of a group is
@@ -26,6 +27,18 @@ abbrev pub else_words : Option ℕ → List ℕ
 else_words (Some first) = codes ", so no run executes its ELSE"
 else_words None = []
 
+-- by how much an output has more places than the limit of an input that carries it over, and what comes of it
+abbrev pub carry_cause : List ℕ → ℕ → ℕ → List ℕ
+carry_cause input places takes =
+    decimal places ++ (codes " where the range file lets " ++ (input ++ (codes " have " ++ (decimal takes
+    ++ codes ", so the next run of the year may have no inputs"))))
+
+-- what helps
+abbrev pub carry_remedy : List ℕ → ℕ → ℕ → List ℕ
+carry_remedy input places takes =
+    codes "end its value with setScale(" ++ (decimal takes ++ (codes ", BigDecimal.ROUND_..), or write places = "
+    ++ (decimal places ++ (codes " in [input." ++ (input ++ codes "] where that is a BigDecimal")))))
+
 -- The word of a finding and, behind a colon, its sentence, which says from what it follows: the text alone, or the ranges of the inputs.
 abbrev pub finding_words : Finding → List ℕ
 finding_words (Unread site) =
@@ -43,6 +56,11 @@ finding_words (NeverTrue site first) =
     codes "never-true: by the ranges of the inputs, the test of this IF never holds" ++ then_words first
 finding_words (NeverFalse site first) =
     codes "never-false: by the ranges of the inputs, the test of this IF always holds" ++ else_words first
+finding_words (LongCarry site input places takes) =
+    codes "long-carry: by the ranges of the inputs, the output "
+    ++ (site.name
+    ++ (codes " may have more places than the input that carries it over, " ++ (carry_cause input places takes
+    ++ (codes "; " ++ carry_remedy input places takes))))
 
 -- these words behind a place, and the end of the line
 abbrev pub words_line : Finding → List ℕ

@@ -61,4 +61,12 @@ pub enum Finding {
         site: StatementSite,
         first: Option<u32>,
     },
+    /// The output's values may have this many places, and an input that carries them over takes fewer: then the next run of the year has
+    /// no inputs.
+    LongCarry {
+        site: DeclarationSite,
+        input: Name,
+        places: u8,
+        takes: u8,
+    },
 }

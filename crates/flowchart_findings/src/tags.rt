@@ -65,7 +65,8 @@ impl TagPlaces {
         ensures { result ≡ finding_byte self.now finding.now }
     {
         match finding {
-            Finding::Unread(site) | Finding::Unassigned(site) => self.declaration(*site),
+            Finding::Unread(site) | Finding::Unassigned(site) | Finding::LongCarry { site, .. } =>
+                self.declaration(*site),
             Finding::DeadMethod { method_number, .. } => self.methods.get(*method_number).copied(),
             Finding::DeadStatement(site)
             | Finding::UnusedValue { site, .. }

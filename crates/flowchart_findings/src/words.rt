@@ -1,8 +1,9 @@
 //! The words of findings.
 ghost use Rattle.std.specs.Prelude.{◌≡◌, IfOk, string_bytes};
-ghost use Rattle.flowchart_findings.specs.Texts.{group_word, then_words, else_words, finding_words};
+ghost use Rattle.flowchart_findings.specs.Texts.{group_word, then_words, else_words, carry_cause, carry_remedy, finding_words};
 
 use crate::finding::{Finding, Group};
+use pap_tree::Name;
 use std::alloc::{AllocError, Global};
 
 /// What a declaration of a group is.
@@ -58,7 +59,40 @@ pub(crate) fn finding_words(alloc: Global, finding: &Finding) -> Result<String, 
                 "never-false: by the ranges of the inputs, the test of this IF always holds{so}"
             )
         }
+        Finding::LongCarry {
+            site,
+            input,
+            places,
+            takes,
+        } => {
+            let output = site.name;
+            let cause = carry_cause(alloc, input, *places, *takes)?;
+            let remedy = carry_remedy(alloc, input, *places, *takes)?;
+            format!(in alloc;
+                "long-carry: by the ranges of the inputs, the output {output} may have more places than the input that carries it over, {cause}; {remedy}"
+            )
+        }
     }
+}
+
+/// By how much an output has more places than the limit of an input that carries it over, and what comes of it.
+fn carry_cause(alloc: Global, input: &Name, places: u8, takes: u8) -> Result<String, AllocError>
+    ensures { IfOk result (λ words. string_bytes words ≡ carry_cause input.now places takes) }
+{
+    let name = *input;
+    format!(in alloc;
+        "{places} where the range file lets {name} have {takes}, so the next run of the year may have no inputs"
+    )
+}
+
+/// What helps there.
+fn carry_remedy(alloc: Global, input: &Name, places: u8, takes: u8) -> Result<String, AllocError>
+    ensures { IfOk result (λ words. string_bytes words ≡ carry_remedy input.now places takes) }
+{
+    let name = *input;
+    format!(in alloc;
+        "end its value with setScale({takes}, BigDecimal.ROUND_..), or write places = {places} in [input.{name}] where that is a BigDecimal"
+    )
 }
 
 /// What follows from a test that never holds, where its THEN has a first statement.

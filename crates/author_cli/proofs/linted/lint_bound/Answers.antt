@@ -14,8 +14,8 @@ returns-in-Ok c =
     let limits = named_text c.args.limits in
     let f = flowchart_of c.args.bound.now.typed in
     let l = c.args.bound.now.limits in
-    if_ok_map c.tell_findings.result (λ answer. IsFindingsText plan f l answer.text.items (words_of answer.reason))
+    let outputs = map named_range c.in-Ok.survey.verdict.outputs.items in
+    if_ok_map c.tell_findings.result (λ answer. IsFindingsText plan f l outputs answer.text.items (words_of answer.reason))
     (λ answer. IsLinted plan limits answer.text.items (words_of answer.reason))
-    (λ answer told. inl (findings_accepted plan limits.bytes f l (map named_range c.in-Ok.survey.verdict.outputs.items)
-    answer.text.items (words_of answer.reason) c.requires.passed c.in-Ok.ensures.ranges told))
+    (λ answer told. inl (findings_accepted plan limits.bytes f l outputs answer.text.items (words_of answer.reason) c.requires.passed c.in-Ok.ensures.ranges told))
     c.tell_findings.ensures
