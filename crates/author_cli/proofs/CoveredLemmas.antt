@@ -18,6 +18,7 @@ use Rattle.flowchart_page.specs.Findings.{IsFound}
 use Rattle.flowchart_page.specs.Judged.{finding_of, words_of as verdict_words}
 use Rattle.flowchart_page.specs.Pages.{IsRunPage}
 use Rattle.flowchart_page.specs.Runs.{RunParts}
+use Rattle.flowchart_page.specs.declared.subject.Subject.TheVariants.{Coverage as OfCoverage}
 use Rattle.author_cli.specs.Words.{Medium}
 use Rattle.author_cli.specs.Traced.{IsRefusedAs}
 use Rattle.author_cli.specs.Covered.{share_words, cover_files, IsCoverTold, IsUnreadTable, IsLongTable, IsUncovered, shown_coverage, WritesFound, IsCoverAnswer}
@@ -78,7 +79,7 @@ silent plan limits m (verdicts.Refused reason) a h = absurd (not_refused plan li
 
 -- a part of a page, and the marks of statements
 abbrev parts_of : List ℕ → List (List Marked) → RunParts
-parts_of part marks = record { part = part; marks = marks; internals = [] }
+parts_of part marks = record { subject = OfCoverage; part = part; marks = marks; internals = [] }
 
 pub draws_found : (plan limits : List ℕ) (found : RunsFound) (v : Verdict) (part : List ℕ) (marks shown : List (List Marked))
     (words : Option (List ℕ)) (page : List ℕ) → IsSomeMeaning plan limits → IsFound plan (Some limits) (finding_of v)

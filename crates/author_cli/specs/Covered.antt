@@ -11,6 +11,7 @@ use Rattle.plan_answers.specs.Lines.{refusal_line}
 use Rattle.script_steps.specs.LineTexts.{table_detail, edit_detail}
 use Rattle.flowchart_page.specs.Pages.{IsRunPage}
 use Rattle.flowchart_page.specs.Runs.{RunParts}
+use Rattle.flowchart_page.specs.declared.subject.Subject.TheVariants.{Coverage as OfCoverage}
 use Rattle.table_coverage.specs.TableCoverages.{CoverFiles, RunsFound, found_text, found_share, found_part, found_marks, IsCovered, IsTableRefused, HasManyRuns}
 use Rattle.author_cli.specs.Words.{Medium, as_text, as_page}
 use Rattle.author_cli.specs.Traced.{IsRefusedAs}
@@ -30,7 +31,7 @@ share_words share (Some least) = low_share_words share least
 -- what the page of a plan shows of runs: the part of it that tells to what they came, and in the drawings how many came to each
 -- statement
 abbrev pub shown_coverage : RunsFound → RunParts
-shown_coverage found = record { part = found_part found; marks = found_marks found; internals = [] }
+shown_coverage found = record { subject = OfCoverage; part = found_part found; marks = found_marks found; internals = [] }
 
 -- the text tells what is found of runs, or the page of the accepted plan shows it
 abbrev pub WritesFound : Medium → (plan limits : List ℕ) → RunsFound → List ℕ → Type 0

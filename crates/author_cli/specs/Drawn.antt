@@ -12,6 +12,7 @@ use Rattle.plain_words.specs.Places.{NamedText}
 use Rattle.plain_words.specs.Refusals.{TellsPlan}
 use Rattle.flowchart_page.specs.Pages.{IsPage, IsRunPage}
 use Rattle.flowchart_page.specs.Runs.{RunParts}
+use Rattle.flowchart_page.specs.declared.subject.Subject.TheVariants.{Run as OfRun}
 use Rattle.flowchart_page.specs.Verdicts.{files_with}
 use Rattle.source_lines.specs.Lines.{lines_of_file}
 use Rattle.run_trace.specs.ShownRuns.{RunPieces, ShowsRun}
@@ -21,11 +22,11 @@ use Rattle.author_cli.specs.Traced.{accepted_texts, filled_alone, state_detail}
 
 -- what a page shows of a run: the part of it that tells of the run, and in the drawings the marks of its statements
 abbrev pub shown_run : RunPieces → RunParts
-shown_run run = record { part = run.part; marks = run.marks; internals = [] }
+shown_run run = record { subject = OfRun; part = run.part; marks = run.marks; internals = [] }
 
 -- what a page shows of a run that there is none of, by this part of it: no marks in the drawings
 abbrev pub shown_part : List ℕ → RunParts
-shown_part part = record { part = part; marks = []; internals = [] }
+shown_part part = record { subject = OfRun; part = part; marks = []; internals = [] }
 
 -- the plan is accepted, and its page shows the run on these values, with the lines of the plan's file
 pub record IsDrawnRun (values : List NamedValue) (plan limits text : List ℕ) (reason : Option (List ℕ)) : Type 0 where

@@ -16,7 +16,7 @@ ghost use Rattle.author_cli.specs.Covered.{share_words, low_share_words};
 use crate::answer::Answer;
 use crate::traced::answer_refused;
 use crate::words::Medium;
-use flowchart_page::{Marking, RunShown, draw_judged, judge};
+use flowchart_page::{Marking, RunShown, Subject, draw_judged, judge};
 use outside::{FileAnswer, Files};
 use payroll_records::{LONGEST_TABLE, MOST_RECORDS, TableFault};
 use plain_words::{TextFile, table_words};
@@ -116,6 +116,7 @@ fn draw_found(
     let part = found.part(alloc)?;
     let marks = found.marks(alloc)?;
     let shown = RunShown {
+        subject: Subject::Coverage,
         part: &part,
         marks: &marks,
         marking: Marking::Counts,

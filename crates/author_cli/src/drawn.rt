@@ -18,7 +18,7 @@ use crate::answer::Answer;
 use crate::given::{fill_given, given_words};
 use crate::traced::{record_of, state_detail};
 use carry_bindings::{Blocked, Filled};
-use flowchart_page::{Marking, Reason, RunShown, Verdict, draw_judged, judge};
+use flowchart_page::{Marking, Reason, RunShown, Subject, Verdict, draw_judged, judge};
 use pap_plan::Plan;
 use payroll_records::Values;
 use plain_words::TextFile;
@@ -118,6 +118,7 @@ fn draw_run(
     let lines = source_lines(alloc, plan.bytes, &notes.marks)?;
     let run = run_on_page(alloc, judged.accepted, &lines, given, inputs)?;
     let shown = RunShown {
+        subject: Subject::Run,
         part: &run.part,
         marks: &run.marks,
         marking: Marking::Run,
@@ -153,6 +154,7 @@ fn draw_blocked(
     let line = blocked_line(alloc, state)?;
     let part = blocked_part(alloc, words.as_str(), line.as_bytes())?;
     let run = RunShown {
+        subject: Subject::Run,
         part: &part,
         marks: &[],
         marking: Marking::Nothing,

@@ -24,7 +24,8 @@ use Rattle.flowchart_methods.specs.Captions.{AreCaptions, methods_of}
 use Rattle.flowchart_methods.proofs.Laws.{turn-before, turn-behind, adds_none, adds_before, adds_behind, adds_then}
 use Rattle.flowchart_page.specs.Findings.{Finding, IsFound, marked}
 use Rattle.flowchart_page.specs.Heads.{page_head}
-use Rattle.flowchart_page.specs.Runs.{RunParts, run_texts, run_marks, run_internals}
+use Rattle.flowchart_page.specs.declared.subject.Subject.{Subject}
+use Rattle.flowchart_page.specs.Runs.{RunParts, run_subject, run_texts, run_marks, run_internals}
 use Rattle.flowchart_page.specs.Declarations.{TableSource}
 use Rattle.flowchart_page.specs.Judged.{finding_of, words_of, HasLine}
 use Rattle.flowchart_page.specs.Pages.{page_end, IsWholePage, Says, AreLimits, IsRunPage}
@@ -43,21 +44,21 @@ four_parts a b c d p q r s t is_p is_q is_r is_s is_t =
     ∙ append_assoc a b (c ++ d)
 
 -- its head, the verdict, what stands behind that, and its end
-pub page_around : (title : List ℕ) (version : Option (List ℕ)) (lead : List (String Global)) (verdict rest p q r s t : List ℕ)
-    → p ≡ [] → q ≡ p ++ page_head title version lead → r ≡ q ++ verdict → s ≡ r ++ rest → t ≡ s ++ page_end
-    → IsMarkedUp rest → IsAround verdict rest t
-page_around title version lead verdict rest p q r s t is_p is_q is_r is_s is_t marked_up = record {
+pub page_around : (subject : Subject) (title : List ℕ) (version : Option (List ℕ)) (lead : List (String Global)) (verdict rest p q r s t : List ℕ)
+    → p ≡ [] → q ≡ p ++ page_head subject title version lead → r ≡ q ++ verdict → s ≡ r ++ rest → t ≡ s ++ page_end
+    → IsMarkedUp rest → IsAround subject verdict rest t
+page_around subject title version lead verdict rest p q r s t is_p is_q is_r is_s is_t marked_up = record {
   title = title;
   version = version;
   lead = lead;
-  whole = four_parts (page_head title version lead) verdict rest page_end p q r s t is_p is_q is_r is_s is_t;
+  whole = four_parts (page_head subject title version lead) verdict rest page_end p q r s t is_p is_q is_r is_s is_t;
   marked_up = marked_up;
 }
 
 -- the same with these texts
-pub whole_page : (verdict : List ℕ) (texts : List (List ℕ)) (rest page : List ℕ) → StandInTurn texts rest
-    → IsAround verdict rest page → IsWholePage verdict texts page
-whole_page verdict texts rest page stand around = record {
+pub whole_page : (subject : Subject) (verdict : List ℕ) (texts : List (List ℕ)) (rest page : List ℕ) → StandInTurn texts rest
+    → IsAround subject verdict rest page → IsWholePage subject verdict texts page
+whole_page subject verdict texts rest page stand around = record {
   title = around.title;
   version = around.version;
   lead = around.lead;
@@ -84,7 +85,7 @@ fault_of bytes faults.Memory n h = absurd (n refl)
 
 -- the page of a file that isn't read as a plan
 pub unread_page : (run : Option RunParts) (finding : Finding) (verdict : Site → List ℕ) (plan : List ℕ) (file : Option (List ℕ)) (f : ReadFault)
-    (page : List ℕ) → f ≢ faults.Memory → IsFaultOrMemory plan f → IsWholePage (verdict Nowhere) (run_texts run ++ []) page
+    (page : List ℕ) → f ≢ faults.Memory → IsFaultOrMemory plan f → IsWholePage (run_subject run) (verdict Nowhere) (run_texts run ++ []) page
     → ShowsVerdict run plan file finding verdict page
 unread_page run finding verdict plan file f page n h whole = record {
   site = Nowhere;
@@ -137,11 +138,11 @@ site_page run finding verdict notes limits site captions tree page names are has
 
 -- the same from what stands behind the verdict
 pub table_page : (run : Option RunParts) (source : TableSource) (tree : ElementTree) (captions : List (List ℕ)) (verdict rest page : List ℕ)
-    → IsBehind run source tree captions rest → IsAround verdict rest page → HasTable run source tree captions verdict page
+    → IsBehind run source tree captions rest → IsAround (run_subject run) verdict rest page → HasTable run source tree captions verdict page
 table_page run source tree captions verdict rest page behind around = record {
   table = behind.table;
   is_table = behind.is_table;
-  whole = whole_page verdict (run_texts run ++ (behind.table ++ captions)) rest page behind.stand around;
+  whole = whole_page (run_subject run) verdict (run_texts run ++ (behind.table ++ captions)) rest page behind.stand around;
 }
 
 -- what a page has of a run, as it is appended

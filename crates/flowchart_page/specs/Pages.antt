@@ -23,21 +23,22 @@ use Rattle.flowchart_methods.specs.Turns.{StandInTurn}
 use Rattle.flowchart_methods.specs.Captions.{AreCaptions, methods_of}
 use Rattle.flowchart_page.specs.Findings.{Finding, accepted, in_order, refused, IsFound, marked}
 use Rattle.flowchart_page.specs.Heads.{page_head}
-use Rattle.flowchart_page.specs.Runs.{RunParts, run_texts, run_marks, run_internals}
+use Rattle.flowchart_page.specs.declared.subject.Subject.{Subject}
+use Rattle.flowchart_page.specs.Runs.{RunParts, run_subject, run_texts, run_marks, run_internals}
 use Rattle.flowchart_page.specs.Declarations.{IsDeclarationTable}
 
 -- the last line of a page
 abbrev pub page_end : List ℕ
 page_end = codes "</body></html>\n"
 
--- A page from its start to its end: its head, then the verdict, and behind that markup of the page's own, in which these texts stand
--- in turn. The page's own markup says no verdict, and hides, runs and fetches nothing.
-pub record IsWholePage (verdict : List ℕ) (texts : List (List ℕ)) (page : List ℕ) : Type 0 where
+-- A page from its start to its end: its head, whose title says what it shows, then the verdict, and behind that markup of the page's own,
+-- in which these texts stand in turn. The page's own markup says no verdict, and hides, runs and fetches nothing.
+pub record IsWholePage (subject : Subject) (verdict : List ℕ) (texts : List (List ℕ)) (page : List ℕ) : Type 0 where
   pub title : List ℕ
   pub version : Option (List ℕ)
   pub lead : List (String Global)
   pub rest : List ℕ
-  pub whole : page ≡ page_head title version lead ++ (verdict ++ (rest ++ page_end))
+  pub whole : page ≡ page_head subject title version lead ++ (verdict ++ (rest ++ page_end))
   pub marked_up : IsMarkedUp rest
   pub stand : StandInTurn texts rest
 
@@ -143,7 +144,7 @@ pub record Shows (run : Option RunParts) (plan : List ℕ) (file : Option (List 
     (verdict page : List ℕ) : Type 0 where
   pub texts : List (List ℕ)
   pub are_texts : ArePlanTexts run plan file finding site texts
-  pub whole : IsWholePage verdict (run_texts run ++ texts) page
+  pub whole : IsWholePage (run_subject run) verdict (run_texts run ++ texts) page
 
 -- the verdict on the page is what is found of the plan, with the range file or without one, it has these words on a refusal, and the
 -- page has this of a run

@@ -11,7 +11,7 @@ ghost use Rattle.flowchart_methods.specs.declared.site.Site.TheVariants.{Nowhere
 ghost use Rattle.flowchart_page.specs.Findings.{IsFound};
 ghost use Rattle.flowchart_page.specs.Judged.{finding_of, words_of, HasLine};
 ghost use Rattle.flowchart_page.specs.Pages.{IsWholePage, AreLimits, IsPage, IsRunPage};
-ghost use Rattle.flowchart_page.specs.Runs.{all_runs, stop_text, stopped_runs, run_parts, run_texts, run_marks, run_internals};
+ghost use Rattle.flowchart_page.specs.Runs.{all_runs, stop_text, stopped_runs, run_parts, run_subject, run_texts, run_marks, run_internals};
 ghost use Rattle.flowchart_page.specs.private.PageViews.{IsAround, ShowsTree, ShowsRead, HasTable, IsBehind, ShowsVerdict};
 ghost use Rattle.flowchart_page.specs.private.SourceViews.{table_source};
 ghost use Rattle.flowchart_page.specs.private.VerdictViews.{verdict_text};
@@ -20,6 +20,7 @@ use crate::declarations::{Declarations, write_declarations};
 use crate::header::{Head, push_head, push_own, push_page, push_verdict};
 use crate::index::{Marking, write_index, write_key};
 use crate::site::site_shown;
+use crate::subject::Subject;
 use crate::verdict::{Reason, Verdict, judge};
 use flowchart_markup::{Fill, Page};
 use flowchart_methods::{
@@ -45,6 +46,8 @@ pub struct Chart {
 /// What a page shows of a run, or of all runs.
 #[derive(Clone, Copy)]
 pub struct RunShown<'a> {
+    /// What the page shows.
+    pub subject: Subject,
     /// The part of the page that tells of the run, or of all runs: it stands above the index of the methods.
     pub part: &'a Page,
     /// What is known of the statements of each method, MAIN first; nothing where they aren't marked.
@@ -56,6 +59,16 @@ pub struct RunShown<'a> {
 }
 
 impl<'a> RunShown<'a> {
+    /// What the page shows: the flowchart alone where there is no run.
+    fn subject(run: Option<RunShown<'a>>) -> Subject
+        ensures { result ≡ run_subject (option_map run_parts run.entry) }
+    {
+        match run {
+            Some(run) => run.subject,
+            None => Subject::Flowchart,
+        }
+    }
+
     /// What is known of the statements of each method: nothing where there is no run.
     fn marks(run: Option<RunShown<'a>>) -> &'a [MethodMarks]
         ensures { result.now ≡ run_marks (option_map run_parts run.entry) }
@@ -143,6 +156,7 @@ pub fn draw_ranged(
 {
     let part = Page::new(alloc);
     let shown = RunShown {
+        subject: Subject::Flowchart,
         part: &part,
         marks,
         marking: Marking::Ranges,
@@ -171,6 +185,7 @@ pub fn draw_stopped(
     let (method, number) = stop;
     let part = stop_part(alloc, method, number)?;
     let shown = RunShown {
+        subject: Subject::Flowchart,
         part: &part,
         marks,
         marking: Marking::Stopped,
@@ -344,8 +359,8 @@ fn empty_page(
     verdict: &Verdict,
     run: Option<RunShown<'_>>,
 ) -> Result<Vec<u8>, AllocError>
-    ensures { IfOk result (λ page. IsWholePage (verdict_text verdict.now Nowhere)
-        (run_texts (option_map run_parts run.entry) ++ []) page.items) }
+    ensures { IfOk result (λ page. IsWholePage (run_subject (option_map run_parts run.entry))
+        (verdict_text verdict.now Nowhere) (run_texts (option_map run_parts run.entry) ++ []) page.items) }
 {
     let mut rest = Page::new(alloc);
     rest.put(
@@ -353,7 +368,9 @@ fn empty_page(
         &[],
     )?;
     append_run(&mut rest, run)?;
+    let subject = RunShown::subject(run);
     let head = Head {
+        subject,
         title: file,
         version: None,
         lead: &[],
@@ -369,8 +386,8 @@ fn page_of(
     site: &Site,
     rest: Page,
 ) -> Result<Vec<u8>, AllocError>
-    ensures { IfOk result (λ page.
-        IsAround (verdict_text verdict.now site.now) rest page.items) }
+    ensures { IfOk result (λ page. IsAround head.entry.subject
+        (verdict_text verdict.now site.now) rest page.items) }
 {
     let mut html = Vec::new(alloc);
     push_head(alloc, &mut html, head)?;
@@ -442,7 +459,9 @@ fn behind_verdict(
 }
 
 /// The head of a plan's page: its name, its version and the comments before it.
-fn head_of<'a>(source: Source<'a>) -> Head<'a> {
+fn head_of<'a>(source: Source<'a>) -> Head<'a>
+    ensures { result.subject ≡ run_subject (option_map run_parts source.entry.run) }
+{
     let notes = source.notes;
     let title = match &notes.name {
         Some(name) => name.as_str(),
@@ -453,6 +472,7 @@ fn head_of<'a>(source: Source<'a>) -> Head<'a> {
         None => None,
     };
     Head {
+        subject: RunShown::subject(source.run),
         title,
         version,
         lead: notes.walk().skip_to(Element::Pap),

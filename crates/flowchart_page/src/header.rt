@@ -4,10 +4,11 @@ ghost use Rattle.pap_types.specs.Meaning.{bound_of};
 ghost use Rattle.pap_plan.specs.Plans.{meaning};
 ghost use Rattle.flowchart_markup.specs.Escapes.{escaped};
 ghost use Rattle.flowchart_markup.specs.Fragments.{IsMarkedUp};
-ghost use Rattle.flowchart_page.specs.Heads.{page_head, head_start, version_text, lead_text};
+ghost use Rattle.flowchart_page.specs.Heads.{page_head, head_start, title_end, version_text, lead_text};
 ghost use Rattle.flowchart_page.specs.Pages.{shown_parts, shown_words, link_text, accepted_text, refused_text};
 ghost use Rattle.flowchart_page.specs.private.VerdictViews.{verdict_text};
 
+use crate::subject::Subject;
 use crate::verdict::{Reason, Verdict};
 use flowchart_markup::{Page, push_escaped};
 use flowchart_methods::{Site, write_comments};
@@ -22,6 +23,8 @@ const BODY_START: &str =
 /// What stands in the head of a page.
 #[derive(Clone, Copy)]
 pub(crate) struct Head<'a> {
+    /// What the page shows.
+    pub subject: Subject,
     pub title: &'a str,
     pub version: Option<&'a str>,
     /// The comments before the plan.
@@ -30,26 +33,37 @@ pub(crate) struct Head<'a> {
 
 /// Appends what stands before the verdict.
 pub(crate) fn push_head(alloc: Global, html: &mut Vec<u8>, head: Head<'_>) -> Result<(), AllocError>
-    ensures { OnOk result (html.new.items ≡ html.old.items ++ page_head head.entry.title.now
+    ensures { OnOk result (html.new.items ≡ html.old.items ++ page_head head.entry.subject head.entry.title.now
         (option_map (λ version. version.now) head.entry.version) head.entry.lead.now) }
 {
-    push_head_start(html, head.title)?;
+    push_head_start(html, head.subject, head.title)?;
     push_version(html, head.version)?;
     push_lead(alloc, html, head.lead)?;
     Ok(())
 }
 
 /// Appends how a page begins, with its title in its head and in its body.
-fn push_head_start(html: &mut Vec<u8>, title: &str) -> Result<(), AllocError>
-    ensures { OnOk result (html.new.items ≡ html.old.items ++ head_start title.now) }
+fn push_head_start(html: &mut Vec<u8>, subject: Subject, title: &str) -> Result<(), AllocError>
+    ensures { OnOk result (html.new.items ≡ html.old.items ++ head_start subject title.now) }
 {
     push_own(html, page_start())?;
     push_escaped(html, title.as_bytes())?;
-    push_own(html, ": flowchart</title>\n<style>\n")?;
+    push_own(html, title_end(subject))?;
     push_own(html, style_sheet())?;
     push_own(html, BODY_START)?;
     push_escaped(html, title.as_bytes())?;
     Ok(())
+}
+
+/// The end of the title in the head of a page, which says what the page shows.
+fn title_end(subject: Subject) -> &'static str
+    ensures { result.now ≡ title_end subject }
+{
+    match subject {
+        Subject::Flowchart => ": flowchart</title>\n<style>\n",
+        Subject::Run => ": run</title>\n<style>\n",
+        Subject::Coverage => ": coverage</title>\n<style>\n",
+    }
 }
 
 /// Appends the version of a plan, where it has one, and the end of the title.

@@ -7,8 +7,10 @@ mod header;
 mod index;
 mod ranges;
 mod site;
+mod subject;
 mod verdict;
 
 pub use chart::{Chart, RunShown, draw_chart, draw_judged, draw_ranged, draw_stopped};
 pub use index::Marking;
+pub use subject::Subject;
 pub use verdict::{Reason, Verdict, judge};

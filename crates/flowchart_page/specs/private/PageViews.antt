@@ -12,15 +12,16 @@ use Rattle.flowchart_methods.specs.Turns.{StandInTurn}
 use Rattle.flowchart_page.specs.Declarations.{TableSource, IsDeclarationTable}
 use Rattle.flowchart_page.specs.Findings.{Finding, marked}
 use Rattle.flowchart_page.specs.Heads.{page_head}
-use Rattle.flowchart_page.specs.Runs.{RunParts, run_texts, run_marks, run_internals}
+use Rattle.flowchart_page.specs.declared.subject.Subject.{Subject}
+use Rattle.flowchart_page.specs.Runs.{RunParts, run_subject, run_texts, run_marks, run_internals}
 use Rattle.flowchart_page.specs.Pages.{page_end, IsWholePage, AreTreeTexts, Shows}
 
--- a page with this verdict, and this markup behind it
-pub record IsAround (verdict rest page : List ℕ) : Type 0 where
+-- a page that shows this, with this verdict and this markup behind it
+pub record IsAround (subject : Subject) (verdict rest page : List ℕ) : Type 0 where
   pub title : List ℕ
   pub version : Option (List ℕ)
   pub lead : List (String Global)
-  pub whole : page ≡ page_head title version lead ++ (verdict ++ (rest ++ page_end))
+  pub whole : page ≡ page_head subject title version lead ++ (verdict ++ (rest ++ page_end))
   pub marked_up : IsMarkedUp rest
 
 -- the page of a plan of these elements, whose verdict leads to what it names, and which has this of a run
@@ -29,7 +30,7 @@ pub record ShowsTree (run : Option RunParts) (plan : List ℕ) (file : Option (L
   pub site : Site
   pub texts : List (List ℕ)
   pub are_texts : AreTreeTexts run plan file finding site tree texts
-  pub whole : IsWholePage (verdict site) (run_texts run ++ texts) page
+  pub whole : IsWholePage (run_subject run) (verdict site) (run_texts run ++ texts) page
 
 -- the same, for what was read of the plan's file and of its range file, where the table shows this of the plan's comments and ranges
 pub record ShowsRead (run : Option RunParts) (notes : Notes) (limits : Option Limits) (finding : Finding) (verdict : Site → List ℕ)
@@ -41,14 +42,14 @@ pub record ShowsRead (run : Option RunParts) (notes : Notes) (limits : Option Li
       (record { notes = notes; limits = limits; finding = finding; internals = run_internals run; site = site }) tree table
   pub captions : List (List ℕ)
   pub are_captions : AreCaptions (marked finding) (run_marks run) (methods_of tree) captions
-  pub whole : IsWholePage (verdict site) (run_texts run ++ (table ++ captions)) page
+  pub whole : IsWholePage (run_subject run) (verdict site) (run_texts run ++ (table ++ captions)) page
 
 -- a whole page with this verdict, this of a run, the titles and rows of a table, and these captions
 pub record HasTable (run : Option RunParts) (source : TableSource) (tree : ElementTree) (captions : List (List ℕ))
     (verdict page : List ℕ) : Type 0 where
   pub table : List (List ℕ)
   pub is_table : IsDeclarationTable source tree table
-  pub whole : IsWholePage verdict (run_texts run ++ (table ++ captions)) page
+  pub whole : IsWholePage (run_subject run) verdict (run_texts run ++ (table ++ captions)) page
 
 -- what stands behind the verdict: this of a run, the titles and rows of a table, and these captions
 pub record IsBehind (run : Option RunParts) (source : TableSource) (tree : ElementTree) (captions : List (List ℕ))
