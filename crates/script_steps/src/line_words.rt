@@ -24,6 +24,12 @@ const THERE_ARE: &str =
 /// The mark with which a text of UTF-8 may begin.
 const MARK: &[u8] = b"\xEF\xBB\xBF";
 
+/// Characters in UTF-8 that look like a blank and join what stands beside them: no-break spaces of several widths.
+const JOINING_BLANKS: [&[u8]; 3] = [b"\xC2\xA0", b"\xE2\x80\x87", b"\xE2\x80\xAF"];
+
+/// How a comment begins in other languages.
+const FOREIGN_COMMENTS: [&[u8]; 3] = [b"//", b"/*", b";"];
+
 /// The place of a line's first value, the command being at 0.
 const FIRST_VALUE: usize = 4;
 
@@ -53,6 +59,10 @@ fn write_fault(told: &mut String, line: &[u8], fault: &LineFault) -> Result<(), 
     let Some(takes) = Takes::of(first) else {
         return write_command_fault(told, first);
     };
+    if let Some(joined) = joined_word(words, fault, takes) {
+        write_shown(told, joined)?;
+        return told.push_str(" has a no-break space in it; write a blank in its place");
+    }
     match fault {
         LineFault::Words => write_words_fault(told, words, takes),
         LineFault::Employee => write_employee_fault(told, word_at(words, 1)),
@@ -62,6 +72,40 @@ fn write_fault(told: &mut String, line: &[u8], fault: &LineFault) -> Result<(), 
         LineFault::Twice { name } => write_repeat(told, words, *name),
         _ => write!(told, "{fault}"),
     }
+}
+
+/// The word with a no-break space that may be why a line is refused: the one at fault, or where their number may be wrong the first.
+fn joined_word<'a>(words: &[&'a [u8]], fault: &LineFault, takes: Takes) -> Option<&'a [u8]> {
+    let place = match fault {
+        LineFault::Words => return words.iter().copied().find(|word| has_joining_blank(word)),
+        LineFault::Employee => 1,
+        LineFault::Month => takes.month_place(),
+        LineFault::Day => takes.day_place(),
+        LineFault::Value { word } => place_of(*word),
+        _ => return None,
+    };
+    let word = word_at(words, place);
+    has_joining_blank(word).then_some(word)
+}
+
+/// Whether a character stands in a word that looks like a blank and joins what stands beside it.
+fn has_joining_blank(word: &[u8]) -> bool {
+    for at in 0..word.len() {
+        if begins_with_one(&word[at..], &JOINING_BLANKS) {
+            return true;
+        }
+    }
+    false
+}
+
+/// Whether a word begins with one of these texts.
+fn begins_with_one(word: &[u8], texts: &[&[u8]]) -> bool {
+    texts.iter().any(|text| word.starts_with(text))
+}
+
+/// The place of the word of a number, the command being word 1, and at 0.
+fn place_of(number: u32) -> usize {
+    (number as usize).saturating_sub(1)
 }
 
 /// The words of a line.
@@ -99,12 +143,44 @@ fn write_command_fault(told: &mut String, word: &[u8]) -> Result<(), AllocError>
         return told.push_str("a carriage return alone ends the line; end it with a line feed");
     }
     write_shown(told, word)?;
+    if has_joining_blank(word) {
+        return told.push_str(" has a no-break space in it; write a blank in its place");
+    }
+    told.push_str(" is not a command; ")?;
+    write_command_help(told, word)
+}
+
+/// Appends what helps where a first word is not a command.
+fn write_command_help(told: &mut String, word: &[u8]) -> Result<(), AllocError> {
+    if begins_with_one(word, &FOREIGN_COMMENTS) {
+        return told.push_str("a comment begins with #");
+    }
+    if matches!(word, b">" | b"$") {
+        return told.push_str("leave it out, so that the line begins with its command");
+    }
+    if word.contains(&b'=') {
+        return told.push_str("write all values of a run in the line of its add or change");
+    }
+    let letters = letters_of(word);
     for command in COMMANDS.iter() {
-        if word.eq_ignore_ascii_case(command.as_bytes()) {
-            return write!(told, " is not a command; write {command} in small letters");
+        if letters.eq_ignore_ascii_case(command.as_bytes()) {
+            return match word.len().saturating_sub(letters.len()) {
+                0 => write!(told, "write {command} in small letters"),
+                1 => write!(told, "write {command} without the sign behind it"),
+                _ => write!(told, "write {command} and a blank behind it"),
+            };
         }
     }
-    write!(told, " is not a command; {THERE_ARE}")
+    told.push_str(THERE_ARE)
+}
+
+/// The letters with which a word begins.
+fn letters_of(word: &[u8]) -> &[u8] {
+    let count = word
+        .iter()
+        .take_while(|byte| byte.is_ascii_alphabetic())
+        .count();
+    &word[..count]
 }
 
 /// Appends that a command takes other words, and what helps.
@@ -114,6 +190,9 @@ fn write_words_fault(told: &mut String, words: &[&[u8]], takes: Takes) -> Result
         return write_file_fault(told, words, takes);
     }
     let command = String::from_utf8_lossy(*told.allocator(), word_at(words, 0))?;
+    if let Some(comment) = words.iter().copied().find(|word| is_comment(word)) {
+        return write_comment(told, comment);
+    }
     let is_long = count > takes.most();
     if is_long && takes == Takes::Run {
         let values = count.saturating_sub(takes.least());
@@ -164,9 +243,29 @@ fn write_employee_fault(told: &mut String, word: &[u8]) -> Result<(), AllocError
 
 /// Appends what is wrong with the value word of a number, the command being word 1, and what helps.
 fn write_value_fault(told: &mut String, words: &[&[u8]], number: u32) -> Result<(), AllocError> {
-    let place = (number as usize).saturating_sub(1);
-    let wrong = value_words(*told.allocator(), word_at(words, place))?;
-    write!(told, "word {number}: {wrong}")
+    let word = word_at(words, place_of(number));
+    write!(told, "word {number}: ")?;
+    if is_comment(word) {
+        return write_comment(told, word);
+    }
+    if matches!(word, b"\\") {
+        return told.push_str("`\\` doesn't go on with the line; write the run in one line");
+    }
+    let wrong = value_words(*told.allocator(), word)?;
+    told.push_str(wrong.as_str())
+}
+
+/// Whether a word behind a command is meant to begin a comment.
+fn is_comment(word: &[u8]) -> bool {
+    word.starts_with(b"#") || word.starts_with(b"//")
+}
+
+/// Appends that a word begins a comment where none may stand, and what helps.
+fn write_comment(told: &mut String, word: &[u8]) -> Result<(), AllocError> {
+    write_shown(told, word)?;
+    told.push_str(
+        " stands behind a command, where no comment may stand; write the comment in a line of its own, which begins with #",
+    )
 }
 
 /// Appends which word gives a name a second value, and what helps.

@@ -21,11 +21,7 @@ pub(crate) fn write_month_fault(
     let word = word_at(words, place);
     write_shown(told, word)?;
     if let Some(day) = Day::read(word) {
-        let month = Month::of_day(day);
-        return write!(
-            told,
-            " is a day, and a month has to stand there; write {month}"
-        );
+        return write_day_for_month(told, words, takes, day);
     }
     if is_written(word, MONTH_LENGTH) {
         return told.push_str(if is_of_years(word) {
@@ -34,12 +30,36 @@ pub(crate) fn write_month_fault(
             " is not of the years 1900 to 2999"
         });
     }
+    if takes == Takes::Run && word.contains(&b'=') {
+        return told.push_str(
+            " is a value, and a month has to stand there; write a month and a day before the values, as 2026-01 2026-01-31",
+        );
+    }
     told.push_str(" isn't written as a month is; ")?;
     told.push_str(if takes == Takes::Run && has_month_behind(words, place) {
         "an employee is one word: join its parts with - or _"
     } else {
         "write it as 2026-01"
     })
+}
+
+/// Appends that this day stands in place of a month, and what helps.
+fn write_day_for_month(
+    told: &mut String,
+    words: &[&[u8]],
+    takes: Takes,
+    day: Day,
+) -> Result<(), AllocError> {
+    let month = Month::of_day(day);
+    told.push_str(" is a day, and a month has to stand there; ")?;
+    if takes == Takes::Run && Day::read(word_at(words, takes.day_place())).is_none() {
+        write!(
+            told,
+            "write the month, and the day behind it: {month} {day}"
+        )
+    } else {
+        write!(told, "write {month}")
+    }
 }
 
 /// Whether a month stands behind a place of a line.
@@ -70,6 +90,13 @@ pub(crate) fn write_day_fault(
             told,
             " is a month, and a day has to stand there; write one, as {month}-01"
         );
+    }
+    if takes == Takes::Run && word.contains(&b'=') {
+        told.push_str(" is a value, and a day has to stand there; write one, as ")?;
+        return match Month::read(word_at(words, takes.month_place())) {
+            Some(month) => write!(told, "{month}-01"),
+            None => told.push_str("2026-01-31"),
+        };
     }
     write_form_of_day(told, word, takes)
 }
