@@ -1,4 +1,5 @@
 pub mod CauseLemmas
+pub mod FilledLemmas
 pub mod FirstLemmas
 pub mod LineLemmas
 pub mod TallyLemmas

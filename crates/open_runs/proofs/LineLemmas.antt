@@ -5,6 +5,7 @@ use Rattle.std.specs.List.{flat_map}
 use Rattle.std.proofs.lemmas.Grind.{flat_map-append}
 use Rattle.std.proofs.lemmas.Bool.Decides.{Decides-eqb}
 use Rattle.std.proofs.lemmas.List.{append-nil, take_all, take_more}
+use Rattle.recalc_engine.specs.Contents.{Contents}
 use Rattle.open_runs.specs.declared.tally.CauseCount.{CauseCount}
 use Rattle.open_runs.specs.OpenRuns.{Counted, cause_part, causes_part, counted_line, counts_part, other_part, others_part}
 
@@ -27,14 +28,15 @@ text_with f xs i x first before after is lt e b =
 -- ---- the causes
 
 -- the first cause and the others
-pub causes_split : (causes : List CauseCount) (first : CauseCount) → 1 ≤ length causes → first ≡ get_or causes 0 first →
-    causes_part causes
-    ≡ codes ": " ++ (cause_part first ++ flat_map other_part (take (length causes - 1) (drop 1 causes)))
-causes_split [] first some is = absurd (omega (arith, some))
-causes_split (cause ∷ causes) first some is =
+pub causes_split : (book : Contents) (causes : List CauseCount) (first : CauseCount) → 1 ≤ length causes →
+    first ≡ get_or causes 0 first →
+    causes_part book causes
+    ≡ codes ": " ++ (cause_part book first ++ flat_map (other_part book) (take (length causes - 1) (drop 1 causes)))
+causes_split book [] first some is = absurd (omega (arith, some))
+causes_split book (cause ∷ causes) first some is =
     let whole : take (length (cause ∷ causes) - 1) causes ≡ causes = take_all (length (cause ∷ causes) - 1) causes (omega arith) in
-    ap (λ v. codes ": " ++ (cause_part v ++ flat_map other_part causes)) (sym is)
-    ∙ ap (λ v. codes ": " ++ (cause_part first ++ flat_map other_part v)) (sym whole)
+    ap (λ v. codes ": " ++ (cause_part book v ++ flat_map (other_part book) causes)) (sym is)
+    ∙ ap (λ v. codes ": " ++ (cause_part book first ++ flat_map (other_part book) v)) (sym whole)
 
 -- a text with three parts more, the last of which may fail
 pub with_parts : {T E : Type 0} (r : Result T E) (old sign_end part_end new sign part rest whole : List ℕ) →
@@ -52,12 +54,12 @@ said_at n text true is some = absurd (some ((Decides-eqb n 0).0 is))
 said_at n text false is some = ap (λ v. if v then [] else text) is
 
 -- the whole line, part by part
-pub whole_line : (counted : Counted) (none counts causes line : List ℕ) → (counted.without ≡ 0 → ⊥) → none ≡ [] →
-    counts ≡ none ++ counts_part counted.without counted.runs → causes ≡ counts ++ causes_part counted.causes →
-    line ≡ causes ++ (others_part counted.others ++ 10 ∷ []) → line ≡ counted_line counted
-whole_line counted none counts causes line some a b c d =
+pub whole_line : (book : Contents) (counted : Counted) (none counts causes line : List ℕ) → (counted.without ≡ 0 → ⊥) → none ≡ [] →
+    counts ≡ none ++ counts_part counted.without counted.runs → causes ≡ counts ++ causes_part book counted.causes →
+    line ≡ causes ++ (others_part counted.others ++ 10 ∷ []) → line ≡ counted_line book counted
+whole_line book counted none counts causes line some a b c d =
     let first = counts_part counted.without counted.runs in
-    let second = causes_part counted.causes in
+    let second = causes_part book counted.causes in
     let last = others_part counted.others ++ 10 ∷ [] in
     d ∙ (ap (λ v. v ++ last) (c ∙ ap (λ v. v ++ second) (b ∙ ap (λ v. v ++ first) a))
     ∙ (append_assoc first second last

@@ -1,17 +1,21 @@
 -- The runs of a book that have no amounts, by cause, and the line that says so on standard error.
-use Rattle.std.specs.Prelude.{ℕ, nat_lt, List, [], ◌∷◌, ◌++◌, length, map, take, filter, count_by, codes, Bool, true, false, not, ◌==◌, if◌then◌else◌, Option, Some, None}
+use Rattle.std.specs.Prelude.{ℕ, nat_lt, List, [], ◌∷◌, ◌++◌, length, map, take, filter, count_by, codes, Bool, true, false, not, ◌&&◌, ◌==◌, if◌then◌else◌, Option, Some, None, is_some}
 use Rattle.std.specs.Fmt.{decimal}
-use Rattle.std.specs.List.{filter_map, flat_map}
-use Rattle.std.specs.Option.{option_map}
+use Rattle.std.specs.List.{filter_map, flat_map, list_any}
+use Rattle.std.specs.Option.{option_map, option_map_or}
 use Rattle.std.specs.Str.{bytes_eq}
 use Rattle.carry_bindings.specs.declared.filling.Blocked.{Blocked}
 use Rattle.carry_bindings.specs.declared.filling.Blocked.TheVariants as blocked
 use Rattle.payroll_records.specs.Days.{day_text}
 use Rattle.payroll_records.specs.declared.day.Day.{Day}
 use Rattle.payroll_records.specs.declared.record.Key.{Key}
+use Rattle.plan_calendar.specs.Picking.{pick, plan_of}
+use Rattle.pap_plan.specs.Inputs.{carry_named}
+use Rattle.book_year.specs.Accepted.{Accepted}
 use Rattle.book_year.specs.declared.outcome.State.{State}
 use Rattle.book_year.specs.declared.outcome.State.TheVariants as states
-use Rattle.recalc_engine.specs.MonthRows.{KeyedRow}
+use Rattle.recalc_engine.specs.Contents.{Contents}
+use Rattle.recalc_engine.specs.MonthRows.{KeyedRow, month_rows}
 use Rattle.open_runs.specs.declared.cause.Cause.{Cause}
 use Rattle.open_runs.specs.declared.cause.Cause.TheVariants.{NoPlan, Waits, Unknown, Missing, Range}
 use Rattle.open_runs.specs.declared.tally.CauseCount.{CauseCount}
@@ -105,6 +109,18 @@ counted_in tally = record {
   others = tally.others;
 }
 
+-- ---- inputs that are filled
+
+-- the flowchart has an input of this name, and its range file fills it from earlier runs
+abbrev pub fills : Accepted → List ℕ → Bool
+fills plan name =
+    list_any (λ d. bytes_eq d.name name && is_some (carry_named plan.meaning.limits d.name))
+    plan.meaning.flowchart.inputs
+
+-- the flowchart that holds on this day has such an input, and its range file fills it
+abbrev pub is_filled : Contents → Day → List ℕ → Bool
+is_filled book day name = option_map_or (λ e. fills (plan_of e) name) (pick book.plans day) false
+
 -- ---- the line
 
 -- a cause as the report writes it, with its name
@@ -120,36 +136,53 @@ abbrev pub day_words : Day → List ℕ
 day_words day = day_text day.year day.month day.day
 
 -- CAUSE COUNT, first EMP DAY
-abbrev pub cause_part : CauseCount → List ℕ
-cause_part known =
+abbrev pub count_part : CauseCount → List ℕ
+count_part known =
     cause_words known.cause ++ (codes " " ++ (decimal known.count ++ (codes ", first "
     ++ (known.first.employee ++ (codes " " ++ day_words known.first.day)))))
 
+-- which entry fills the input of a name, where one does, and what helps
+abbrev pub entry_words : Bool → List ℕ → List ℕ
+entry_words true name =
+    codes ", where the entry [bind." ++ (name ++ codes "] fills this input from earlier runs: leave the value out")
+entry_words false name = []
+
+-- the same of a cause, by the flowchart that holds on this day
+abbrev pub filled_words : Contents → Day → Cause → List ℕ
+filled_words book day (Unknown name) = entry_words (is_filled book day name) name
+filled_words book day _ = []
+
+-- a cause, how many runs have it, which is the first, and whether an entry fills its input there
+abbrev pub cause_part : Contents → CauseCount → List ℕ
+cause_part book known = count_part known ++ filled_words book known.first.day known.cause
+
 -- a further cause
-abbrev pub other_part : CauseCount → List ℕ
-other_part known = codes "; " ++ cause_part known
+abbrev pub other_part : Contents → CauseCount → List ℕ
+other_part book known = codes "; " ++ cause_part book known
 
 -- the causes behind a colon
-abbrev pub causes_part : List CauseCount → List ℕ
-causes_part [] = []
-causes_part (first ∷ others) = codes ": " ++ (cause_part first ++ flat_map other_part others)
+abbrev pub causes_part : Contents → List CauseCount → List ℕ
+causes_part book [] = []
+causes_part book (first ∷ others) =
+    codes ": " ++ (cause_part book first ++ flat_map (other_part book) others)
 
 -- what is said where there are further causes
 abbrev pub others_part : Bool → List ℕ
 others_part others = if others then codes "; and others" else []
 
--- papcalc: N of M runs have no amounts
+-- papcalc: N of M runs have no amounts, or has, where that is one
 abbrev pub counts_part : ℕ → ℕ → List ℕ
 counts_part without runs =
-    codes "papcalc: " ++ (decimal without ++ (codes " of " ++ (decimal runs ++ codes " runs have no amounts")))
+    codes "papcalc: " ++ (decimal without ++ (codes " of " ++ (decimal runs
+    ++ (if without == 1 then codes " runs has no amounts" else codes " runs have no amounts"))))
 
 -- the counts, the causes, and whether there are others; nothing where each run has amounts
-abbrev pub counted_line : Counted → List ℕ
-counted_line counted =
+abbrev pub counted_line : Contents → Counted → List ℕ
+counted_line book counted =
     if counted.without == 0 then []
     else counts_part counted.without counted.runs
-    ++ (causes_part counted.causes ++ (others_part counted.others ++ (10 ∷ [])))
+    ++ (causes_part book counted.causes ++ (others_part counted.others ++ (10 ∷ [])))
 
--- the line of the rows of a book
-abbrev pub open_line : List KeyedRow → List ℕ
-open_line rows = counted_line (counted_of rows)
+-- the line of a book
+abbrev pub open_line : Contents → List ℕ
+open_line book = counted_line book (counted_of (month_rows book))

@@ -2,6 +2,7 @@
 #![tactic(auto)]
 
 mod cause;
+mod filled;
 mod line;
 mod tally;
 

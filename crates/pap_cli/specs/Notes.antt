@@ -7,7 +7,6 @@ use Rattle.outside.specs.declared.traits.Sink.{Ghosts as SinkTells}
 use Rattle.script_run.specs.Notes.{AreNoted, NotesShown, Telling, notes_shown}
 use Rattle.open_runs.specs.OpenRuns.{open_line}
 use Rattle.recalc_engine.specs.Contents.{Contents}
-use Rattle.recalc_engine.specs.MonthRows.{month_rows}
 use Rattle.script_run.specs.RunClauses.{RunResult}
 use Rattle.script_run.specs.Transcripts.{Session, IsTranscript}
 use Rattle.script_run.specs.declared.line_counts.LineCounts.{LineCounts}
@@ -35,7 +34,7 @@ pub record AreSummed
     (left : Option (List ℕ)) (files : Option FileMap) (counts : LineCounts) (before after : NotesShown) : Type 0 where
   pub book : Contents
   pub leaves : ForSome left (λ script. ForSome files (λ files. LeavesBook files script book))
-  pub put : AreNoted before after (refused_summary counts.refused ++ open_line (month_rows book))
+  pub put : AreNoted before after (refused_summary counts.refused ++ open_line book)
 
 -- what is put to them behind the lines of a script: at its end that sum, and else nothing
 abbrev pub SumsUp : Option (List ℕ) → Option FileMap → RunResult → NotesShown → NotesShown → Type 0

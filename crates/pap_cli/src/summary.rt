@@ -1,7 +1,6 @@
 //! What is said at the end of a script.
 ghost use Rattle.std.specs.Prelude.{◌≡◌, ◌++◌, if◌then◌else◌, IfOk, OnOk, string_bytes};
 ghost use Rattle.open_runs.specs.OpenRuns.{open_line};
-ghost use Rattle.recalc_engine.specs.MonthRows.{month_rows};
 ghost use Rattle.script_run.specs.Notes.{AreNoted, notes_shown};
 ghost use Rattle.pap_cli.specs.Notes.{refused_summary};
 
@@ -20,7 +19,7 @@ pub(crate) fn sum_up<N: Sink>(
     notes: &mut N,
 ) -> Result<(), AllocError>
     ensures { OnOk result (AreNoted (notes_shown N.Sink notes.old) (notes_shown N.Sink notes.new)
-        (refused_summary counts.refused ++ open_line (month_rows book.now))) }
+        (refused_summary counts.refused ++ open_line book.now)) }
 {
     let mut text = refused_summary(alloc, counts.refused)?;
     let runs = open_line(alloc, book)?;

@@ -5,4 +5,4 @@ use Rattle.open_runs.proofs.line.write_others.Given as goal
 
 abbrev pub invariant-loop-other : goal.invariant-loop-other
 invariant-loop-other l =
-    string_bytes l.line ≡ string_bytes l.initial.line ++ flat_map other_part (take l.other-index l.others)
+    string_bytes l.line ≡ string_bytes l.initial.line ++ flat_map (other_part l.book) (take l.other-index l.others)

@@ -4,7 +4,6 @@ use Rattle.std.proofs.lemmas.Result.{err_from_is_err_and}
 use Rattle.outside.specs.Told.{Appends, AppendsShort}
 use Rattle.pap_cli.specs.Statuses.{status_of}
 use Rattle.open_runs.specs.OpenRuns.{open_line}
-use Rattle.recalc_engine.specs.MonthRows.{month_rows}
 use Rattle.script_steps.specs.Steps.{Standing}
 use Rattle.script_run.specs.Notes.{AreNoted, notes_shown}
 use Rattle.pap_cli.specs.Notes.{refused_summary, telling}
@@ -33,7 +32,7 @@ returns-in-Ok-put_all-clause-leaves g c =
       leaves = λ script left files told. let ends = c.in-Ok.ensures.standing script left files told in
           record { session = ends.session; is = ends.is; book_is = ap (λ (s : Standing). s.book) (sym ends.left) };
       put = subst (λ b. AreNoted (notes_shown g.N.Sink c.run_unwritten.new.notes) (notes_shown g.N.Sink c.sum_up.new.notes)
-          (refused_summary ended.counts.refused ++ open_line (month_rows b))) c.book.ensures c.in_ok-sum_up.ensures;
+          (refused_summary ended.counts.refused ++ open_line b)) c.book.ensures c.in_ok-sum_up.ensures;
     }) (c.in-Ok.ensures.kept (λ e. cc))
     (subst (λ t. Appends before.written after.written t) c.deref.ensures.value c.in-Ok-put_all.ensures.ok)
 
@@ -55,7 +54,7 @@ returns-clause-leaves g c =
       leaves = λ script left files told. let ends = c.in-Ok.ensures.standing script left files told in
           record { session = ends.session; is = ends.is; book_is = ap (λ (s : Standing). s.book) (sym ends.left) };
       put = subst (λ b. AreNoted (notes_shown g.N.Sink c.run_unwritten.new.notes) (notes_shown g.N.Sink c.sum_up.new.notes)
-          (refused_summary ended.counts.refused ++ open_line (month_rows b))) c.book.ensures c.in_ok-sum_up.ensures;
+          (refused_summary ended.counts.refused ++ open_line b)) c.book.ensures c.in_ok-sum_up.ensures;
     }) (c.in-Ok.ensures.kept (λ e. cc))
     (subst (λ t. AppendsShort before.written after.written t) c.deref.ensures.value c.in-Err-put_all.ensures.err)
 

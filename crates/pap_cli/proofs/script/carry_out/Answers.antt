@@ -2,7 +2,6 @@ use Rattle.std.proofs.Common.{◌∙◌, Bool, ap, sym, subst}
 use Rattle.std.specs.Prelude.{Err, ◌++◌}
 use Rattle.std.proofs.lemmas.Result.{err_from_is_err_and}
 use Rattle.open_runs.specs.OpenRuns.{open_line}
-use Rattle.recalc_engine.specs.MonthRows.{month_rows}
 use Rattle.script_steps.specs.Steps.{Standing}
 use Rattle.script_run.specs.Notes.{AreNoted, notes_shown}
 use Rattle.pap_cli.specs.Notes.{refused_summary, telling}
@@ -28,7 +27,7 @@ returns-in_ok-sum_up-in-Ok-clause-leaves g c =
       leaves = λ script left files told. let ends = c.in-Ok.ensures.standing script left files told in
           record { session = ends.session; is = ends.is; book_is = ap (λ (s : Standing). s.book) (sym ends.left) };
       put = subst (λ b. AreNoted (notes_shown g.N.Sink c.run.new.notes) (notes_shown g.N.Sink c.sum_up.new.notes)
-          (refused_summary ended.counts.refused ++ open_line (month_rows b))) c.book.ensures c.in_ok-sum_up-in-Ok.ensures;
+          (refused_summary ended.counts.refused ++ open_line b)) c.book.ensures c.in_ok-sum_up-in-Ok.ensures;
     }))
 
 pub returns-in_err-sum_up-in-Ok-clause-leaves : goal.returns-in_err-sum_up-in-Ok-clause-leaves
