@@ -142,14 +142,14 @@ count_part known =
     ++ (known.first.employee ++ (codes " " ++ day_words known.first.day)))))
 
 -- which entry fills the input of a name, where one does, and what helps
-abbrev pub entry_words : Bool → List ℕ → List ℕ
-entry_words true name =
+abbrev pub filling_words : Bool → List ℕ → List ℕ
+filling_words true name =
     codes ", where the entry [bind." ++ (name ++ codes "] fills this input from earlier runs: leave the value out")
-entry_words false name = []
+filling_words false name = []
 
 -- the same of a cause, by the flowchart that holds on this day
 abbrev pub filled_words : Contents → Day → Cause → List ℕ
-filled_words book day (Unknown name) = entry_words (is_filled book day name) name
+filled_words book day (Unknown name) = filling_words (is_filled book day name) name
 filled_words book day _ = []
 
 -- a cause, how many runs have it, which is the first, and whether an entry fills its input there

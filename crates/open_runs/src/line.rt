@@ -2,7 +2,7 @@
 ghost use Rattle.std.specs.Prelude.{◌≡◌, [], ◌∷◌, ◌++◌, IfOk, OnOk, string_bytes};
 ghost use Rattle.std.specs.List.{flat_map};
 ghost use Rattle.open_runs.specs.OpenRuns.{cause_part, causes_part, count_part, counted_in, counted_line, counts_part};
-ghost use Rattle.open_runs.specs.OpenRuns.{entry_words, filled_words, open_line, other_part, others_part};
+ghost use Rattle.open_runs.specs.OpenRuns.{filling_words, filled_words, open_line, other_part, others_part};
 
 use crate::cause::Cause;
 use crate::filled::is_filled;
@@ -125,15 +125,15 @@ fn write_filled(line: &mut String, book: &Book, day: Day, cause: &Cause) -> Resu
         ≡ string_bytes line.old ++ filled_words book.now day cause.now) }
 {
     match cause {
-        Cause::Unknown(name) => write_entry(line, is_filled(book, day, name), name),
+        Cause::Unknown(name) => write_filling(line, is_filled(book, day, name), name),
         _ => Ok(()),
     }
 }
 
 /// Appends which entry fills the input of a name, where one does, and what helps.
-fn write_entry(line: &mut String, is_filled: bool, name: &Name) -> Result<(), AllocError>
+fn write_filling(line: &mut String, is_filled: bool, name: &Name) -> Result<(), AllocError>
     ensures { OnOk result
-        (string_bytes line.new ≡ string_bytes line.old ++ entry_words is_filled name.now) }
+        (string_bytes line.new ≡ string_bytes line.old ++ filling_words is_filled name.now) }
 {
     if !is_filled {
         return Ok(());
