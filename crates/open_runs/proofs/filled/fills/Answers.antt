@@ -8,5 +8,5 @@ pub returns : goal.returns
 returns c =
     let name = c.args.name.now in
     c.carries.ensures
-    ∙ (ap (λ slots. carries slots name) c.as_slice.ensures.value
+    ∙ (ap (λ slots. carries slots name) c.as_slice.ensures
     ∙ fills_slots c.args.plan.now.ranges name (flowchart c.args.plan.now).inputs c.spec.result.now.slots c.spec.ensures)
