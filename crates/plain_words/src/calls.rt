@@ -1,5 +1,5 @@
 //! What is wrong in the brackets of a call.
-use crate::java_words::{MATH, is_of_math};
+use crate::math::is_of_math;
 use crate::tokens::{OpenCall, Stop, is_mark, open_call};
 use expr_tokens::{Keyword, Sign, Token};
 use pap_tree::{Binary, Name};
@@ -7,9 +7,6 @@ use pap_tree::{Binary, Name};
 /// What helps in the brackets of a call, or at its word.
 pub(crate) fn call_help(stop: &Stop<'_>) -> Option<&'static str> {
     let call = stop.call()?;
-    if is_of_math(stop.tokens, call.number) {
-        return Some(MATH);
-    }
     if is_mode(&call) {
         mode_help(stop)
     } else if is_scale(&call) {

@@ -24,9 +24,15 @@ enum Operator {
     Over,
 }
 
-/// A change of a variable as Java has it: of an EVAL the second token isn't a `=`.
+/// A change of a variable as Java has it: `J++`, `++J` or `J += K`.
 pub(crate) fn change_at<'a>(stop: &Stop<'a>) -> Option<Change<'a>> {
-    if stop.form != Form::Assignment || stop.number != 1 {
+    if stop.form != Form::Assignment {
+        return None;
+    }
+    if stop.number == 0 {
+        return step_before(stop.tokens);
+    }
+    if stop.number != 1 {
         return None;
     }
     let target = name_at(stop.tokens, 0)?;
@@ -47,6 +53,28 @@ pub(crate) fn change_at<'a>(stop: &Stop<'a>) -> Option<Change<'a>> {
         operator,
         operand: before_end(stop.text.get(first.at..)?),
     })
+}
+
+/// The change of an EVAL that is `++J` alone.
+fn step_before<'a>(tokens: &[Placed]) -> Option<Change<'a>> {
+    let operator = operator_at(tokens, 0)?;
+    if !is_step(operator) || operator_at(tokens, 1) != Some(operator) || !ends_at(tokens, 3) {
+        return None;
+    }
+    Some(Change {
+        target: name_at(tokens, 2)?,
+        operator,
+        operand: &[],
+    })
+}
+
+/// Whether an EVAL ends before the token of a number, but for its semicolon.
+fn ends_at(tokens: &[Placed], number: usize) -> bool {
+    match tokens.get(number..) {
+        Some([]) => true,
+        Some([_]) => is_mark(tokens, number, Sign::Semicolon),
+        _ => false,
+    }
 }
 
 /// Whether an operator may be doubled, as in `J++`.

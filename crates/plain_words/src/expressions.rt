@@ -131,7 +131,7 @@ fn write_slip(
     match slip_of(fault, &stop) {
         Some(slip) => {
             slip.write(quote, source)?;
-            Ok(slip.help())
+            Ok(slip.help(source))
         }
         None => Ok(token_help(fault, &stop)),
     }
@@ -159,10 +159,10 @@ fn syntax_help(stop: &Stop<'_>) -> &'static str {
     match stop.token() {
         None => "the text ends too early: an operand, a bracket or a part of it is missing",
         Some(Token::Mark(Sign::Equals)) => {
-            "a = may stand once, behind the target of an EVAL; a comparison is written =="
+            "an = may stand once, behind the target of an EVAL; a comparison is written =="
         }
         Some(Token::Operator(Binary::Same)) => {
-            "a == compares two values; in an EVAL a single = stands behind the target"
+            "an == compares two values; in an EVAL a single = stands behind the target"
         }
         Some(_) => "see what stands before it, its brackets and its commas",
     }

@@ -1,12 +1,9 @@
 //! Words that Java or another language has in an expression, and the flowchart's profile doesn't.
 use crate::tokens::{Stop, begins_operand, is_mark, name_at};
-use expr_tokens::{Keyword, Placed, Sign, Token};
+use expr_tokens::{Keyword, Sign, Token};
 
 /// What helps at a word that isn't of the profile.
 pub(crate) fn word_help(stop: &Stop<'_>) -> Option<&'static str> {
-    if is_of_math(stop.tokens, stop.number) {
-        return Some(MATH);
-    }
     if is_behind_not(stop) {
         return Some("write ! for not, as in !(A > B)");
     }
@@ -116,23 +113,5 @@ fn spelling_help(stop: &Stop<'_>) -> Option<&'static str> {
         Some("the class is written RoundingMode, with a capital R and a capital M")
     } else {
         None
-    }
-}
-
-/// What helps where Java's class `Math` is used.
-pub(crate) const MATH: &str =
-    "there is no Math: of values of BigDecimal write A.max(B), A.min(B) or A.abs(), of whole numbers A > B ? A : B";
-
-/// Whether a word stands behind `Math` and a point.
-pub(crate) fn is_of_math(tokens: &[Placed], number: usize) -> bool {
-    let Some(class) = number.checked_sub(2) else {
-        return false;
-    };
-    match name_at(tokens, class) {
-        Some(name) => {
-            name.bytes() == b"Math".as_slice()
-                && is_mark(tokens, class.saturating_add(1), Sign::Dot)
-        }
-        None => false,
     }
 }

@@ -4,15 +4,17 @@ ghost use Rattle.plain_words.specs.private.FoundViews.{IsOfPlan};
 
 use crate::comments::write_open_comment;
 use crate::found::Found;
+use crate::hidden::{hiding_comment, write_hidden};
 use crate::nodes::write_node;
 use crate::place::place_text;
 use crate::quotes::write_quoted;
 use crate::sites::{
-    Source, declaration_of, literal_byte, repeated_bytes, statement_byte, statement_of,
-    write_statement,
+    Source, declaration_of, is_method, literal_byte, repeated_bytes, statement_byte, statement_of,
+    write_method, write_statement,
 };
 use crate::statements::statement_text;
 use crate::tokens::name_byte;
+use pap_reader::RawStmt;
 use pap_tree::{Kind, Name, Place, is_white};
 use pap_types::TypeFault;
 use std::alloc::AllocError;
@@ -51,13 +53,36 @@ fn find_front(source: Source<'_>, place: &Place, quote: &mut String) -> Result<F
     Ok(Found::in_plan(at))
 }
 
-/// Where the name of a method stands that isn't there; the statement is appended, and the comment that may hide it.
+/// Where the name of a method stands that isn't there, or the comment that hides it; the statement is appended, and the comment
+/// that may hide it.
 fn find_lost(source: Source<'_>, place: &Place, quote: &mut String) -> Result<Found, AllocError>
     ensures { IfOk result (λ found. IsOfPlan found) }
 {
+    if let Some(RawStmt::Execute { method }) = statement_of(source, &place.method, place.stmt)
+        && let Some(at) = hiding_comment(source, method)
+    {
+        return find_hidden(source, method, place, 0, at, quote);
+    }
     let found = find_front(source, place, quote)?;
     write_open_comment(quote, source.file.bytes)?;
     Ok(found)
+}
+
+/// Where the comment begins that hides a name which a statement has at a byte of its text; the statement is appended.
+fn find_hidden(
+    source: Source<'_>,
+    name: &Name,
+    place: &Place,
+    at: usize,
+    comment: usize,
+    quote: &mut String,
+) -> Result<Found, AllocError>
+    ensures { IfOk result (λ found. IsOfPlan found) }
+{
+    let used = statement_byte(source, &place.method, place.stmt, at);
+    write_hidden(quote, source, name, used)?;
+    write_statement(quote, source, &place.method, place.stmt, at)?;
+    Ok(Found::in_plan(Some(comment)))
 }
 
 /// Where a name is declared for the second time; where it is for the first time is appended.
@@ -74,7 +99,7 @@ fn find_repeated(source: Source<'_>, name: &Name, quote: &mut String) -> Result<
     }
 }
 
-/// Where a name stands that isn't declared; its statement is appended.
+/// Where a name stands that isn't declared, or the comment that hides its declaration; its statement is appended.
 fn find_unknown(
     source: Source<'_>,
     name: &Name,
@@ -88,6 +113,9 @@ fn find_unknown(
         None => None,
     };
     let at = found.unwrap_or(0);
+    if let Some(comment) = hiding_comment(source, name) {
+        return find_hidden(source, name, place, at, comment, quote);
+    }
     quote.push_str(", in ")?;
     write_statement(quote, source, &place.method, place.stmt, at)?;
     write_known(quote, source, name)?;
@@ -98,18 +126,12 @@ fn find_unknown(
 
 /// Appends what a name is that isn't declared, where that is known.
 fn write_known(quote: &mut String, source: Source<'_>, name: &Name) -> Result<(), AllocError> {
-    let methods = &source.elements.methods;
     match name.bytes() {
         b"ZERO" | b"ONE" | b"TEN" => write!(quote, "; write `BigDecimal.{name}`"),
         b"true" | b"false" => {
             quote.push_str("; there is no true or false: a test compares, as J == 1")
         }
-        _ if methods.iter().any(|method| method.name == *name) => {
-            write!(
-                quote,
-                "; {name} is a METHOD, which `<EXECUTE method=\"{name}\"/>` executes"
-            )
-        }
+        _ if is_method(source, name) => write_method(quote, name),
         _ => Ok(()),
     }
 }

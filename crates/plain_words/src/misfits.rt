@@ -1,15 +1,33 @@
 //! Which operands a node doesn't take, and what is written in their place.
 use crate::operand_kinds::{
     are_parts, is_big, is_comparison, is_logical, is_whole, kind_of, kind_of_name, kind_words,
+    takes_operands,
 };
 use crate::quotes::write_quoted;
 use crate::sites::Source;
+use crate::whole_calls::{is_whole_call, write_whole_call};
 use pap_tree::{Binary, Expr, Name, Unary, print_expr};
 use pap_types::NodeKind;
 use std::alloc::{AllocError, Global};
 
-/// Appends which operands a node doesn't take, and what is written in their place, where that can be spelled.
+/// Appends which operands a node doesn't take, and what is written in their place, where that can be spelled. Nothing where it
+/// takes them.
 pub(crate) fn write_misfit(
+    out: &mut String,
+    source: Source<'_>,
+    node: &Expr,
+) -> Result<(), AllocError> {
+    if takes_operands(source, node) {
+        Ok(())
+    } else if is_whole_call(source, node) {
+        write_whole_call(out, node)
+    } else {
+        write_operands(out, source, node)
+    }
+}
+
+/// Appends which operands of a node aren't of the kinds that it takes, and what is written in their place.
+pub(crate) fn write_operands(
     out: &mut String,
     source: Source<'_>,
     node: &Expr,
@@ -157,7 +175,7 @@ fn write_operation(
 }
 
 /// Whether a kind is that of a number.
-fn is_number(kind: NodeKind) -> bool {
+pub(crate) fn is_number(kind: NodeKind) -> bool {
     kind.is_big() || kind.is_convertible()
 }
 

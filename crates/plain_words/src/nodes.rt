@@ -4,6 +4,7 @@ use crate::operand_kinds::{is_comparison, is_logical, kind_of, takes_operands};
 use crate::quotes::write_quoted;
 use crate::remedies::{Role, write_remedy};
 use crate::sites::{Source, declaration_of, statement_of, write_statement};
+use crate::whole_calls::{WHOLE, is_whole_call};
 use pap_expr::{ExprFault, Stretch, parse_assign_placed, parse_expr_placed};
 use pap_reader::RawStmt;
 use pap_tree::{Binary, Call, Expr, Kind, Name, Place, Unary, find_node, print_expr};
@@ -78,9 +79,9 @@ fn write_spelling(
     let is_part = find_node(&read.expression, number.saturating_add(1)).is_some();
     let stretch = read.nodes.get(number as usize);
     let mut remedy = String::new(alloc);
-    if !takes_operands(source, node) {
+    if is_part {
         write_misfit(&mut remedy, source, node)?;
-    } else if !is_part {
+    } else {
         write_remedy(&mut remedy, source, read.role, node)?;
     }
     Ok(Some(Node {
@@ -209,6 +210,7 @@ fn taken_kinds(source: Source<'_>, node: &Expr) -> &'static str {
         Expr::Call(Call::DivideExact, _, _) => {
             "divide with no scale takes a BigDecimal and a CONSTANT, or BigDecimal.valueOf(n) of an int literal, that divides a power of ten; else write the scale and the rounding mode, as in A.divide(B, 2, BigDecimal.ROUND_DOWN)"
         }
+        Expr::Call(..) if is_whole_call(source, node) => WHOLE,
         Expr::Call(..) | Expr::Divide(..) => {
             "it takes two values of BigDecimal; write BigDecimal.valueOf(..) round a whole number"
         }

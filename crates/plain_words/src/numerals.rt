@@ -13,10 +13,65 @@ pub(crate) fn number_with_comma(text: &[u8], at: usize) -> Option<&[u8]> {
     }
 }
 
-/// Whether a number with both points and commas stands round a byte of a text.
+/// Whether a number with both points and commas, or with several points, stands round a byte of a text.
 pub(crate) fn has_grouped_number(text: &[u8], at: usize) -> bool {
     let number = numeral_round(text, at);
-    number.contains(&b'.') && number.contains(&b',') && is_between_digits(number)
+    let points = number.iter().filter(|byte| **byte == b'.').count();
+    (points > 1 || points == 1 && number.contains(&b',')) && is_between_digits(number)
+}
+
+/// The whole number that has a sign between its thousands at a byte of a text: an apostrophe, a `_`, or one of several points.
+pub(crate) fn number_in_thousands(text: &[u8], at: usize) -> Option<&[u8]> {
+    let sign = *text.get(at)?;
+    if !matches!(sign, b'\'' | b'_' | b'.') {
+        return None;
+    }
+    let front = text.get(..at)?;
+    let first = match front.iter().rposition(|byte| !is_of_thousands(*byte, sign)) {
+        Some(last) if is_word_at(text, last) => return None,
+        Some(last) => last.saturating_add(1),
+        None => 0,
+    };
+    let rest = text.get(first..)?;
+    let count = rest
+        .iter()
+        .take_while(|byte| is_of_thousands(**byte, sign))
+        .count();
+    let number = rest.get(..count)?;
+    let signs = number.iter().filter(|byte| **byte == sign).count();
+    if are_thousands(number, sign) && (signs > 1 || sign != b'.') {
+        Some(number)
+    } else {
+        None
+    }
+}
+
+/// Whether a byte is a digit or this sign.
+fn is_of_thousands(byte: u8, sign: u8) -> bool {
+    byte.is_ascii_digit() || byte == sign
+}
+
+/// Whether a sign parts digits into one to three, and three behind each sign.
+fn are_thousands(number: &[u8], sign: u8) -> bool {
+    let count = number.iter().take_while(|byte| **byte != sign).count();
+    let groups = number.get(count..).unwrap_or(&[]);
+    (1..=3).contains(&count)
+        && groups.len() % 4 == 0
+        && groups
+            .iter()
+            .enumerate()
+            .all(|(i, byte)| (i % 4 == 0) == (*byte == sign))
+}
+
+/// The digits of a number.
+pub(crate) fn digits_of(alloc: Global, number: &[u8]) -> Result<Vec<u8>, AllocError> {
+    let mut digits = Vec::new(alloc);
+    for byte in number {
+        if byte.is_ascii_digit() {
+            digits.push(*byte)?;
+        }
+    }
+    Ok(digits)
 }
 
 /// The number with white space between its digits of which a part begins at a byte of a text.

@@ -1,7 +1,8 @@
 //! Signs that an expression doesn't have, or not there.
+use crate::called::called_at;
 use crate::calls::full_call_help;
 use crate::slips::NUMBER;
-use crate::tokens::{Stop, begins_operand, ends_operand, goes_on_with_word};
+use crate::tokens::{Stop, begins_operand, ends_operand, goes_on_with_word, is_mark, name_at};
 use expr_tokens::{Sign, Token};
 
 /// What is written for a character that isn't of ASCII, as a value in the file has it.
@@ -57,7 +58,7 @@ pub(crate) fn sign_help(stop: &Stop<'_>) -> Option<&'static str> {
 }
 
 /// How a number with a point is written.
-const POINT: &str = "a number with a point has digits before and behind it, as 0.5";
+pub(crate) const POINT: &str = "a number with a point has digits before and behind it, as 0.5";
 
 /// Where a comment is written.
 const COMMENT: &str =
@@ -98,18 +99,46 @@ pub(crate) fn operand_help(stop: &Stop<'_>) -> Option<&'static str> {
     if !ends_operand(before) && lacks_operand(before, token) {
         return Some("a value is missing before it");
     }
-    if !ends_operand(before) || !begins_operand(token) {
+    if !ends_operand(before) || !begins_operand(token) || called_at(stop).is_some() {
         return None;
     }
     Some(match (before, token) {
         (Token::Name(_), Token::Name(_)) if goes_on_with_word(stop) => {
             "a name has at most 32 letters, digits and _"
         }
-        (Token::Name(_), Token::Mark(Sign::Open)) => {
-            "there are no functions: a method stands behind a value, as in A.max(B), and an EXECUTE executes a METHOD"
+        (_, Token::Name(_)) if begins_call(stop) => {
+            "a point is missing before the method, as in A.add(B)"
         }
         _ => "an operator is missing before it",
     })
+}
+
+/// Whether the word of a method stands there, with a bracket behind it.
+fn begins_call(stop: &Stop<'_>) -> bool {
+    match name_at(stop.tokens, stop.number) {
+        Some(name) => {
+            is_method_word(name.bytes())
+                && is_mark(stop.tokens, stop.number.saturating_add(1), Sign::Open)
+        }
+        None => false,
+    }
+}
+
+/// Whether a word is that of a method of BigDecimal.
+fn is_method_word(word: &[u8]) -> bool {
+    matches!(
+        word,
+        b"add"
+            | b"subtract"
+            | b"multiply"
+            | b"divide"
+            | b"setScale"
+            | b"compareTo"
+            | b"min"
+            | b"max"
+            | b"negate"
+            | b"abs"
+    )
 }
 
 /// Whether a token that stands behind another goes on behind an operand alone, which is missing then.

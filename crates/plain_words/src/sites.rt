@@ -287,6 +287,20 @@ pub(crate) fn declares_input(source: Source<'_>, name: &Name) -> bool
     inputs.iter().any(|declared| *name == declared.name)
 }
 
+/// Whether a METHOD of this name is there.
+pub(crate) fn is_method(source: Source<'_>, name: &Name) -> bool {
+    let methods = &source.elements.methods;
+    methods.iter().any(|method| method.name == *name)
+}
+
+/// Appends that a name is a METHOD's.
+pub(crate) fn write_method(out: &mut String, name: &Name) -> Result<(), AllocError> {
+    write!(
+        out,
+        "; {name} is a METHOD, which `<EXECUTE method=\"{name}\"/>` executes"
+    )
+}
+
 /// The byte at which the tag of the first declaration of a name begins.
 pub(crate) fn named_byte(source: Source<'_>, name: &Name) -> Option<usize> {
     declaration_byte(source, declaration_of(source, name)?)

@@ -1,19 +1,25 @@
 //! What the writer of an expression may have meant where its text isn't read on.
 use crate::brackets::{bracket_help, end_help};
+use crate::called::{Called, called_at, called_help, write_called};
 use crate::calls::{call_help, taken_by_call, unclosed_call};
+use crate::casts::cast_help;
 use crate::changes::{
     Change, EVAL, Given, assignment_help, change_at, given_at, lost_at, write_change, write_given,
 };
+use crate::control_words::control_help;
 use crate::java_words::word_help;
 use crate::literals::literal_help;
+use crate::math::math_help;
 use crate::numerals::{
-    has_grouped_number, number_behind_zeros, number_from, number_with_comma, parted_number,
-    plain_number,
+    digits_of, has_grouped_number, number_behind_zeros, number_from, number_in_thousands,
+    number_with_comma, parted_number, plain_number,
 };
+use crate::quoted::quoted_slip;
 use crate::quotes::{token_at, write_quoted};
 use crate::remedies::write_valued;
 use crate::signs::{operand_help, plain_sign, sign_help};
 use crate::sites::Source;
+use crate::suffixes::suffix_help;
 use crate::tokens::{Stop, is_mark};
 use expr_tokens::{Sign, Token};
 use pap_tree::Name;
@@ -26,8 +32,14 @@ pub(crate) enum Slip<'a> {
     Comma(&'a [u8]),
     /// A number, with white space between its digits.
     Parted(&'a [u8]),
+    /// A number, with signs between its thousands.
+    Thousands(&'a [u8]),
     /// A number, with zeros in front of these digits.
     Zeros(&'a [u8]),
+    /// A number in quotation marks, which needs none there.
+    Bare(&'a [u8]),
+    /// A number in quotation marks that lacks its `new BigDecimal`.
+    Quoted(&'a [u8]),
     /// An item of a table, as a number.
     Item(&'a [u8]),
     /// A sign or a letter that isn't of ASCII.
@@ -40,6 +52,8 @@ pub(crate) enum Slip<'a> {
     Lost(Given<'a>),
     /// A call of this word whose bracket seems not to be closed before a comma.
     Unclosed(Name),
+    /// `RATES(J)`.
+    Called(Called<'a>),
     /// What is known by its help alone.
     Other(&'static str),
 }
@@ -53,6 +67,16 @@ impl Slip<'_> {
                 let plain = plain_number(*out.allocator(), number)?;
                 write_quoted(out, &plain, 0)
             }
+            Slip::Thousands(number) => {
+                out.push_str("; write ")?;
+                let digits = digits_of(*out.allocator(), number)?;
+                write_quoted(out, &digits, 0)
+            }
+            Slip::Bare(number) => {
+                out.push_str("; write ")?;
+                write_quoted(out, number, 0)
+            }
+            Slip::Quoted(number) => write_quoted_number(out, number),
             Slip::Item(number) => write_valued(out, number),
             Slip::Foreign(sign) => {
                 let code = u32::from(*sign);
@@ -64,22 +88,27 @@ impl Slip<'_> {
             Slip::Unclosed(word) => {
                 write!(out, "; it seems that the ( behind {word} isn't closed")
             }
+            Slip::Called(called) => write_called(out, source, called),
             Slip::Other(_) => Ok(()),
         }
     }
 
     /// What helps.
-    pub(crate) fn help(&self) -> &'static str {
+    pub(crate) fn help(&self, source: Source<'_>) -> &'static str {
         match self {
             Slip::Comma(_) => "a number has a point before its decimal places, and no comma",
-            Slip::Parted(_) => "a number has nothing between its digits",
+            Slip::Parted(_) | Slip::Thousands(_) => "a number has nothing between its digits",
             Slip::Zeros(_) => "a number has no 0 in front of its digits",
+            Slip::Bare(_) | Slip::Quoted(_) => {
+                "a number in quotation marks stands in new BigDecimal(..) alone"
+            }
             Slip::Item(_) => "an item of a table is a value of BigDecimal",
             Slip::Foreign(sign) => plain_sign(*sign),
             Slip::Change(_) => "an EVAL has one =, behind the name that is given a value",
             Slip::Given(_) => "write = for := behind the name of an EVAL",
             Slip::Lost(_) => EVAL,
             Slip::Unclosed(word) => taken_by_call(word),
+            Slip::Called(called) => called_help(source, called),
             Slip::Other(help) => *help,
         }
     }
@@ -90,19 +119,36 @@ pub(crate) fn slip_at<'a>(stop: &Stop<'a>) -> Option<Slip<'a>> {
     if let Some(slip) = spelled_slip(stop) {
         return Some(slip);
     }
-    if let Some(help) = word_help(stop) {
-        return Some(Slip::Other(help));
-    }
-    if let Some(help) = call_help(stop) {
+    if let Some(help) = foreign_help(stop) {
         return Some(Slip::Other(help));
     }
     if let Some(slip) = number_slip(stop) {
         return Some(slip);
     }
-    match place_help(stop) {
-        Some(help) => Some(Slip::Other(help)),
+    if let Some(help) = place_help(stop) {
+        return Some(Slip::Other(help));
+    }
+    match called_at(stop) {
+        Some(called) => Some(Slip::Called(called)),
         None => None,
     }
+}
+
+/// What helps at what other languages have and expressions don't.
+fn foreign_help(stop: &Stop<'_>) -> Option<&'static str> {
+    if let Some(help) = math_help(stop) {
+        return Some(help);
+    }
+    if let Some(help) = control_help(stop) {
+        return Some(help);
+    }
+    if let Some(help) = cast_help(stop) {
+        return Some(help);
+    }
+    if let Some(help) = word_help(stop) {
+        return Some(help);
+    }
+    call_help(stop)
 }
 
 /// What can be told with what is written in its place.
@@ -127,6 +173,9 @@ fn spelled_slip<'a>(stop: &Stop<'a>) -> Option<Slip<'a>> {
 
 /// What helps by what stands there and before it.
 fn place_help(stop: &Stop<'_>) -> Option<&'static str> {
+    if let Some(help) = suffix_help(stop) {
+        return Some(help);
+    }
     if let Some(help) = assignment_help(stop) {
         return Some(help);
     }
@@ -183,6 +232,9 @@ fn item_slip<'a>(stop: &Stop<'a>) -> Option<Slip<'a>> {
         Token::Mark(Sign::CloseTable) if stop.has_mark_before(1, Sign::Comma) => Some(Slip::Other(
             "an item is missing before it, or a comma is too much",
         )),
+        Token::Name(_) => Some(Slip::Other(
+            "a literal has no names: write the item's own value, as BigDecimal.valueOf(5) or new BigDecimal(\"0.05\")",
+        )),
         _ => Some(Slip::Other(
             "an item of a table is a value of BigDecimal, as BigDecimal.valueOf(-5) or new BigDecimal(\"0.05\")",
         )),
@@ -204,6 +256,9 @@ fn number_slip<'a>(stop: &Stop<'a>) -> Option<Slip<'a>> {
     let comma = comma_slip(stop);
     if comma.is_some() {
         return comma;
+    }
+    if let Some(number) = number_in_thousands(stop.text, stop.at) {
+        return Some(Slip::Thousands(number));
     }
     if has_grouped_number(stop.text, stop.at) {
         return Some(Slip::Other(NUMBER));
@@ -227,32 +282,10 @@ fn number_slip<'a>(stop: &Stop<'a>) -> Option<Slip<'a>> {
 pub(crate) const NUMBER: &str =
     "a number has a point before decimal places and nothing between thousands, as 2500.55";
 
-/// What stands in quotation marks and isn't read.
-fn quoted_slip<'a>(stop: &Stop<'a>) -> Slip<'a> {
-    if let Some(Token::Quoted(_)) = stop.token() {
-        return Slip::Other(
-            "a number in quotation marks stands in new BigDecimal(..) alone, as in new BigDecimal(\"0.05\")",
-        );
-    }
-    let first = stop.at.saturating_add(1);
-    let rest = stop.text.get(first..).unwrap_or(&[]);
-    let Some(end) = rest.iter().position(|byte| *byte == b'"') else {
-        return Slip::Other("the quotation mark behind the number is missing");
-    };
-    let inner = rest.get(..end).unwrap_or(&[]);
-    match number_with_comma(inner, 0) {
-        Some(number) if number.len() == inner.len() => Slip::Comma(number),
-        _ if begins_with_digit(inner) => Slip::Other(NUMBER),
-        _ => Slip::Other(
-            "in quotation marks stands a number alone, as in new BigDecimal(\"2500.55\")",
-        ),
-    }
-}
-
-/// Whether a text begins with a digit.
-fn begins_with_digit(text: &[u8]) -> bool {
-    match text.first() {
-        Some(byte) => byte.is_ascii_digit(),
-        None => false,
-    }
+/// Appends that `new BigDecimal` is written round a number in quotation marks.
+fn write_quoted_number(out: &mut String, number: &[u8]) -> Result<(), AllocError> {
+    let number = String::from_utf8_lossy(*out.allocator(), number)?;
+    let value = format!(in *out.allocator(); "new BigDecimal(\"{number}\")")?;
+    out.push_str("; write ")?;
+    write_quoted(out, value.as_bytes(), 0)
 }

@@ -137,7 +137,7 @@ impl TagStop<'_> {
                 )?
             }
             Some(b'<') => out.push_str(" has a < that isn't escaped")?,
-            Some(_) => out.push_str(" has a & that begins no escape")?,
+            Some(_) => out.push_str(" has an & that begins no escape")?,
             None => out.push_str(" has no closing quotation mark before the file ends")?,
         }
         write_line(out, self.left)?;
@@ -158,7 +158,7 @@ impl TagStop<'_> {
             }
             Some(b'<') => "write &lt; for a < in a value",
             Some(_) => {
-                "write &amp; for a & in a value; the escapes are &lt; &gt; &amp; &quot; &apos; and &#N; with N from 1 to 127"
+                "write &amp; for an & in a value; the escapes are &lt; &gt; &amp; &quot; &apos; and &#N; with N from 1 to 127"
             }
             None => typographic_help(front).unwrap_or(
                 "close the value with the quotation mark that opens it",
