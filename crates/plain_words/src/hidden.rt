@@ -1,5 +1,5 @@
 //! Declarations that a comment without its end hides.
-use crate::place::place_text;
+use crate::counting::position;
 use crate::sites::Source;
 use pap_reader::{Token, past_mark};
 use pap_tree::Name;
@@ -48,17 +48,19 @@ fn is_quote(byte: u8) -> bool {
     byte == b'"' || byte == b'\''
 }
 
-/// Appends that a name stands in the comment that begins at the place of the message, and where it is used, up to its statement.
+/// Appends where a name is used, and that it stands in the comment that begins at the place of the message.
 pub(crate) fn write_hidden(
     out: &mut String,
     source: Source<'_>,
     name: &Name,
     used: Option<usize>,
 ) -> Result<(), AllocError> {
+    if let Some(at) = used {
+        let place = position(source.file.bytes, at);
+        write!(out, ", at {place}")?;
+    }
     write!(
         out,
-        ": the comment that begins here has {name} in it, and another <!--, so it seems to lack its end -->"
-    )?;
-    let place = place_text(*out.allocator(), source.file, used)?;
-    write!(out, "; {name} stands at {place}, in ")
+        ": the comment that begins here has {name} in it, and another <!--, so it seems to lack its end; write --> where it ends"
+    )
 }

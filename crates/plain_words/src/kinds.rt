@@ -68,7 +68,7 @@ fn find_lost(source: Source<'_>, place: &Place, quote: &mut String) -> Result<Fo
     Ok(found)
 }
 
-/// Where the comment begins that hides a name which a statement has at a byte of its text; the statement is appended.
+/// Where the comment begins that hides a name which a statement has at a byte of its text; the statement and its place are appended.
 fn find_hidden(
     source: Source<'_>,
     name: &Name,
@@ -79,9 +79,10 @@ fn find_hidden(
 ) -> Result<Found, AllocError>
     ensures { IfOk result (λ found. IsOfPlan found) }
 {
+    quote.push_str(", in ")?;
+    write_statement(quote, source, &place.method, place.stmt, at)?;
     let used = statement_byte(source, &place.method, place.stmt, at);
     write_hidden(quote, source, name, used)?;
-    write_statement(quote, source, &place.method, place.stmt, at)?;
     Ok(Found::in_plan(Some(comment)))
 }
 

@@ -62,19 +62,16 @@ impl Slip<'_> {
     /// Appends what is written for it, where that can be spelled.
     pub(crate) fn write(&self, out: &mut String, source: Source<'_>) -> Result<(), AllocError> {
         match self {
-            Slip::Comma(number) | Slip::Parted(number) | Slip::Zeros(number) => {
-                out.push_str("; write ")?;
-                let plain = plain_number(*out.allocator(), number)?;
-                write_quoted(out, &plain, 0)
-            }
+            Slip::Comma(number) | Slip::Parted(number) | Slip::Zeros(number) | Slip::Bare(number) =>
+                {
+                    out.push_str("; write ")?;
+                    let plain = plain_number(*out.allocator(), number)?;
+                    write_quoted(out, &plain, 0)
+                }
             Slip::Thousands(number) => {
                 out.push_str("; write ")?;
                 let digits = digits_of(*out.allocator(), number)?;
                 write_quoted(out, &digits, 0)
-            }
-            Slip::Bare(number) => {
-                out.push_str("; write ")?;
-                write_quoted(out, number, 0)
             }
             Slip::Quoted(number) => write_quoted_number(out, number),
             Slip::Item(number) => write_valued(out, number),
@@ -97,7 +94,8 @@ impl Slip<'_> {
     pub(crate) fn help(&self, source: Source<'_>) -> &'static str {
         match self {
             Slip::Comma(_) => "a number has a point before its decimal places, and no comma",
-            Slip::Parted(_) | Slip::Thousands(_) => "a number has nothing between its digits",
+            Slip::Parted(_) => "a number has nothing between its digits",
+            Slip::Thousands(_) => "a number has nothing between its thousands",
             Slip::Zeros(_) => "a number has no 0 in front of its digits",
             Slip::Bare(_) | Slip::Quoted(_) => {
                 "a number in quotation marks stands in new BigDecimal(..) alone"
