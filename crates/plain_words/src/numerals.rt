@@ -20,12 +20,10 @@ pub(crate) fn has_grouped_number(text: &[u8], at: usize) -> bool {
     (points > 1 || points == 1 && number.contains(&b',')) && is_between_digits(number)
 }
 
-/// The whole number that has a sign between its thousands at a byte of a text: an apostrophe, a `_`, or one of several points.
+/// The whole number that has a sign between its thousands at a byte of a text or right before it: an apostrophe, a `_`, or one of
+/// several points.
 pub(crate) fn number_in_thousands(text: &[u8], at: usize) -> Option<&[u8]> {
-    let sign = *text.get(at)?;
-    if !matches!(sign, b'\'' | b'_' | b'.') {
-        return None;
-    }
+    let sign = thousands_sign(text, at)?;
     let front = text.get(..at)?;
     let first = match front.iter().rposition(|byte| !is_of_thousands(*byte, sign)) {
         Some(last) if is_word_at(text, last) => return None,
@@ -44,6 +42,24 @@ pub(crate) fn number_in_thousands(text: &[u8], at: usize) -> Option<&[u8]> {
     } else {
         None
     }
+}
+
+/// The sign at a byte of a text, or right before it, that may stand between thousands.
+fn thousands_sign(text: &[u8], at: usize) -> Option<u8> {
+    let here = *text.get(at)?;
+    if is_thousands_sign(here) {
+        return Some(here);
+    }
+    let before = *text.get(at.checked_sub(1)?)?;
+    if is_thousands_sign(before) {
+        Some(before)
+    } else {
+        None
+    }
+}
+
+fn is_thousands_sign(byte: u8) -> bool {
+    matches!(byte, b'\'' | b'_' | b'.')
 }
 
 /// Whether a byte is a digit or this sign.
