@@ -53,6 +53,7 @@ mod state;
 mod statements;
 mod stops;
 mod suffixes;
+mod surplus;
 mod table;
 mod table_row;
 mod tags;

@@ -26,6 +26,15 @@ pub(crate) enum NumberSlip {
     Other,
 }
 
+/// What a text has that is no number, and what helps.
+#[derive(Clone, Copy)]
+pub(crate) struct SlipWords {
+    /// What it has, as `an exponent`.
+    pub has: &'static str,
+    /// What helps.
+    pub help: &'static str,
+}
+
 impl NumberSlip {
     /// Why a text is no number: the first of the reasons that is so.
     pub(crate) fn of(text: &[u8]) -> NumberSlip {
@@ -53,29 +62,35 @@ impl NumberSlip {
     }
 
     /// What such a text has, and what helps; nothing is known where it is none of the others.
-    pub(crate) fn words(self) -> Option<&'static str> {
-        match self {
-            NumberSlip::Plus => Some("a `+` before its number; take the sign out"),
-            NumberSlip::Dash => Some(
-                "a dash before its number that isn't the minus sign of ASCII; write the `-` of the keyboard",
+    pub(crate) fn words(self) -> Option<SlipWords> {
+        let (has, help) = match self {
+            NumberSlip::Plus => ("a `+` before its number", "take the sign out"),
+            NumberSlip::Dash => (
+                "a dash before its number that isn't the minus sign of ASCII",
+                "write the `-` of the keyboard",
             ),
-            NumberSlip::NoWhole => Some("no digit before its point; write one there, as 0.9"),
-            NumberSlip::NoPlaces => {
-                Some("no digit behind its point; write one there, or take the point out")
-            }
-            NumberSlip::Exponent => {
-                Some("an exponent; write all digits of the number, as 4500 and not 4.5e3")
-            }
-            NumberSlip::Blank => Some("a blank; take the blank out"),
-            NumberSlip::Comma => Some(
-                "a comma; write a point before decimal places and nothing between thousands, as 2500.55",
+            NumberSlip::NoWhole => ("no digit before its point", "write one there, as 0.9"),
+            NumberSlip::NoPlaces => (
+                "no digit behind its point",
+                "write one there, or take the point out",
             ),
-            NumberSlip::Places => Some("more than 30 decimal places; round it to at most 30"),
-            NumberSlip::Wide => Some(
-                "a number beyond 10^37 without its point; write one of fewer digits, or with fewer decimal places",
+            NumberSlip::Exponent => (
+                "an exponent",
+                "write all digits of the number, as 4500 and not 4.5e3",
             ),
-            NumberSlip::Other => None,
-        }
+            NumberSlip::Blank => ("a blank", "take the blank out"),
+            NumberSlip::Comma => (
+                "a comma",
+                "write a point before decimal places and nothing between thousands, as 2500.55",
+            ),
+            NumberSlip::Places => ("more than 30 decimal places", "round it to at most 30"),
+            NumberSlip::Wide => (
+                "a number beyond 10^37 without its point",
+                "write one of fewer digits, or with fewer decimal places",
+            ),
+            NumberSlip::Other => return None,
+        };
+        Some(SlipWords { has, help })
     }
 }
 

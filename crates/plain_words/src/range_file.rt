@@ -18,7 +18,7 @@ use pap_tree::{Kind, Name};
 use range_faults::Section;
 use std::alloc::AllocError;
 
-/// Where a range file is refused by itself; what is wrong with its keys, or what its reader says, is appended.
+/// Where a range file is refused by itself; what is wrong with its keys, or why it isn't TOML, is appended.
 pub(crate) fn find_entry(
     limits: TextFile<'_>,
     fault: &LimitsFault,
@@ -34,7 +34,7 @@ pub(crate) fn find_entry(
     }
 }
 
-/// Where a text is no TOML; what its reader says is appended.
+/// Where a text is no TOML; why is appended.
 fn find_toml(limits: TextFile<'_>, told: &mut String) -> Result<Found, AllocError>
     ensures { IfOk result (λ found. IsOfRanges found) }
 {
@@ -44,9 +44,7 @@ fn find_toml(limits: TextFile<'_>, told: &mut String) -> Result<Found, AllocErro
             let Some(span) = error.span() else {
                 return Err(AllocError);
             };
-            let message = error.message();
-            write!(told, ": {message}")?;
-            write_cause(told, limits.bytes, span.start)?;
+            write_cause(told, limits.bytes, span.start, error.message())?;
             Ok(Found::in_ranges(Some(span.start)))
         }
     }

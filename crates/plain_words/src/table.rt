@@ -5,10 +5,11 @@ ghost use Rattle.plain_words.specs.Lines.{IsOneLine};
 
 use crate::encoding::is_utf16;
 use crate::lines::one_line;
-use crate::number_slip::NumberSlip;
+use crate::number_slip::{NumberSlip, SlipWords};
 use crate::place::TextFile;
 use crate::position;
 use crate::quotes::write_quoted;
+use crate::surplus::write_surplus_help;
 use crate::table_row::{TableRow, earlier_row, find_row};
 use pap_tree::Name;
 use payroll_records::{Day, Employee, MOST_VALUES, Month, TableFault};
@@ -102,6 +103,9 @@ fn fault_place(
 
 /// Appends how many fields a row has, and how many the header has, and what helps.
 fn write_width_fault(told: &mut String, table: &[u8], row: &TableRow) -> Result<(), AllocError> {
+    if begins_comment(row) {
+        return told.push_str("it begins as a comment does, and a table has no comments; take the row out");
+    }
     let found = row.len();
     let noun = if found == 1 { "field" } else { "fields" };
     let wanted = match find_row(*told.allocator(), table, 0)? {
@@ -109,15 +113,21 @@ fn write_width_fault(told: &mut String, table: &[u8], row: &TableRow) -> Result<
         None => 0,
     };
     write!(told, "it has {found} {noun}, and the header has {wanted}; ")?;
-    told.push_str(if found == wanted.saturating_add(1) && row.field(wanted).is_empty() {
-        "a value has a point before its decimal places, not a comma; where each value stands under its own name, take out the comma at its end"
-    } else if row.field(0).contains(&b';') {
-        "write commas between the fields, not semicolons, and a point before decimal places"
-    } else if found > wanted {
-        "a value has a point before its decimal places, not a comma, and nothing between thousands, as 2500.55"
-    } else {
-        "a field without a value is empty, and its comma stands"
-    })
+    if row.field(0).contains(&b';') {
+        return told.push_str(
+            "write commas between the fields, not semicolons, and a point before decimal places",
+        );
+    }
+    if found > wanted {
+        return write_surplus_help(told, row, wanted);
+    }
+    told.push_str("a field without a value is empty, and its comma stands")
+}
+
+/// Whether a row begins with a sign that begins comments elsewhere.
+fn begins_comment(row: &TableRow) -> bool {
+    let text = row.field(0).trim_ascii_start();
+    text.starts_with(b"#") || text.starts_with(b"//")
 }
 
 /// What is said of a field that is right but for blanks round it.
@@ -179,12 +189,27 @@ fn write_day_fault(told: &mut String, row: &TableRow) -> Result<(), AllocError> 
 fn write_value_fault(told: &mut String, cell: &[u8], name: Name) -> Result<(), AllocError> {
     write!(told, "the value of {name} is ")?;
     write_quoted(told, cell, 0)?;
+    if stands_for_none(cell) {
+        return told.push_str(", and no number; where a run has no value leave the field empty");
+    }
     match NumberSlip::of(cell).words() {
-        Some(words) => write!(told, ", with {words}"),
+        Some(SlipWords { has, help }) => write!(told, ", with {has}; {help}"),
         None => told.push_str(
             ", and no number; write digits, a point before decimal places and nothing between thousands, as 2500.55",
         ),
     }
+}
+
+/// The words that stand elsewhere for no value.
+const NO_VALUES: [&str; 9] = ["-", "--", "?", "none", "null", "nil", "nan", "na", "n/a"];
+
+/// Whether a text stands for no value elsewhere: one of these words, in any letters, or a dash of print (U+2010 to U+2015, or U+2212).
+fn stands_for_none(text: &[u8]) -> bool {
+    let word = text.trim_ascii();
+    matches!(word, [0xE2, 0x80, 0x90..=0x95] | [0xE2, 0x88, 0x92])
+        || NO_VALUES
+            .iter()
+            .any(|none| word.eq_ignore_ascii_case(none.as_bytes()))
 }
 
 /// Appends which earlier row has the employee and the day of a row, and what helps.
@@ -222,6 +247,8 @@ fn write_heading(wrong: &mut String, header: &TableRow) -> Result<usize, AllocEr
             "semicolons stand between the fields of the first row"
         } else if header.field(0).contains(&b'\t') {
             "tabs stand between the fields of the first row"
+        } else if begins_comment(header) {
+            "the first row begins as a comment does, and a table has no comments"
         } else {
             "the first row has fewer than three fields"
         })?;

@@ -1,4 +1,5 @@
 //! Why a line of a range file isn't TOML, as far as the line shows it.
+use crate::quotes::write_quoted;
 use pap_tree::is_word;
 use std::alloc::AllocError;
 
@@ -9,27 +10,47 @@ pub(crate) fn write_line_cause(told: &mut String, line: &[u8]) -> Result<(), All
         return told.push_str(": a comment begins with #");
     }
     if line.starts_with(b"[") {
-        return write_heading_cause(told, line);
+        return told.push_str(heading_cause(before_comment(line).trim_ascii_end()));
     }
     let Some(equals) = line.iter().position(|byte| *byte == b'=') else {
-        return Ok(());
+        return write_unset_cause(told, line);
     };
     let key = line.get(..equals).unwrap_or(&[]);
     let value = line.get(equals.saturating_add(1)..).unwrap_or(&[]);
     write_value_cause(told, key.trim_ascii_end(), value.trim_ascii_start())
 }
 
-/// Appends why a heading isn't one, where that shows.
-fn write_heading_cause(told: &mut String, line: &[u8]) -> Result<(), AllocError> {
-    if !line.contains(&b']') {
-        return told.push_str(": a heading ends with ], as [input.NAME]");
+/// Why a heading isn't one, where that shows, else nothing.
+fn heading_cause(line: &[u8]) -> &'static str {
+    let Some(end) = line.iter().position(|byte| *byte == b']') else {
+        return ": a heading ends with ], as [input.NAME]";
+    };
+    if line.starts_with(b"[[") || line.ends_with(b"]]") {
+        return ": a heading stands in single brackets, as [input.NAME]";
+    }
+    if end.saturating_add(1) < line.len() {
+        return ": nothing stands behind a heading; its keys have lines of their own";
     }
     if !line.contains(&b'.') {
-        return told.push_str(
-            ": a heading has a point before the name of its entry, as [input.NAME]",
-        );
+        return ": a heading has a point before the name of its entry, as [input.NAME]";
     }
-    Ok(())
+    ""
+}
+
+/// Appends that a line has a key without `=`, where it begins with a key.
+fn write_unset_cause(told: &mut String, line: &[u8]) -> Result<(), AllocError> {
+    let count = line.iter().take_while(|byte| is_word(**byte)).count();
+    let (key, rest) = line.split_at(count);
+    if key.is_empty() {
+        return Ok(());
+    }
+    told.push_str(if rest.trim_ascii_start().starts_with(b":") {
+        ": a : stands in place of = behind the key "
+    } else {
+        ": no = stands behind the key "
+    })?;
+    write_quoted(told, key, 0)?;
+    told.push_str(", as in low = 0")
 }
 
 /// Appends why the value of a key isn't one, where that shows.
@@ -49,10 +70,23 @@ fn write_value_cause(told: &mut String, key: &[u8], value: &[u8]) -> Result<(), 
 /// Appends why a text in quotation marks isn't a value, where that shows.
 fn write_quote_cause(told: &mut String, value: &[u8]) -> Result<(), AllocError> {
     let mark = value.first().copied().unwrap_or(b'"');
-    if value.iter().filter(|byte| **byte == mark).count() == 1 {
+    let inner = value.get(1..).unwrap_or(&[]);
+    let Some(end) = inner.iter().position(|byte| *byte == mark) else {
         return told.push_str(": the closing quotation mark is missing");
+    };
+    let behind = inner.get(end.saturating_add(1)..).unwrap_or(&[]);
+    told.push_str(rest_cause(before_comment(behind).trim_ascii()))
+}
+
+/// Why a text can't stand behind a value, else nothing.
+fn rest_cause(rest: &[u8]) -> &'static str {
+    match rest {
+        [] => "",
+        b";" => ": no ; stands behind a value; take it out",
+        _ if begins_comment(rest) => ": a comment begins with #",
+        _ if rest.contains(&b'=') => ": each key has a line of its own",
+        _ => ": nothing stands behind a value but a comment, which begins with #",
     }
-    Ok(())
 }
 
 /// A value up to where a comment begins.
@@ -63,9 +97,6 @@ fn before_comment(value: &[u8]) -> &[u8] {
 
 /// Appends why a number or a word without quotation marks isn't a value, where that shows.
 fn write_bare_cause(told: &mut String, key: &[u8], value: &[u8]) -> Result<(), AllocError> {
-    if has_comment(value) {
-        return told.push_str(": a comment begins with #");
-    }
     if has_decimal_comma(value) {
         return told.push_str(
             ": a decimal stands in quotation marks with a point, as high = \"9.5\"",
@@ -73,24 +104,35 @@ fn write_bare_cause(told: &mut String, key: &[u8], value: &[u8]) -> Result<(), A
     }
     let digits = value.strip_prefix(b"-").unwrap_or(value);
     match digits {
-        [first, ..] if first.is_ascii_digit() => write_number_cause(told, digits),
+        [b'{', ..] if !value.contains(&b'}') => {
+            told.push_str(": an entry in braces ends with } in its line")
+        }
+        [first, ..] if first.is_ascii_digit() => told.push_str(number_cause(digits)),
         [first, ..] if is_word(*first) && !is_boolean(value) => write_word_cause(told, key, value),
         _ => Ok(()),
     }
 }
 
-/// Appends why a number isn't a value, where that shows.
-fn write_number_cause(told: &mut String, digits: &[u8]) -> Result<(), AllocError> {
+/// Why a number without its sign isn't a value, where that shows, else nothing.
+fn number_cause(digits: &[u8]) -> &'static str {
     if has_gap(digits) {
-        return told.push_str(": a number has no blanks between its digits");
+        return ": a number has no blanks between its digits";
     }
     if has_leading_zero(digits) {
-        return told.push_str(": a number has no zeros before its other digits");
+        return ": a number has no zeros before its other digits";
     }
-    if digits.len() > 18 && digits.iter().all(|byte| byte.is_ascii_digit()) {
-        return told.push_str(": a number beyond 64 bits stands in quotation marks");
+    let count = digits
+        .iter()
+        .take_while(|byte| byte.is_ascii_digit() || **byte == b'.')
+        .count();
+    let (number, rest) = digits.split_at(count);
+    match rest {
+        [b' ' | b'\t' | b',' | b';' | b'/', ..] => rest_cause(rest.trim_ascii()),
+        [] if number.len() > 18 && !number.contains(&b'.') => {
+            ": a number beyond 64 bits stands in quotation marks"
+        }
+        _ => "",
     }
-    Ok(())
 }
 
 /// Appends that a word stands in quotation marks.
@@ -116,16 +158,6 @@ fn has_leading_zero(digits: &[u8]) -> bool {
 /// Whether a value is one of the two words that TOML has.
 fn is_boolean(value: &[u8]) -> bool {
     matches!(value, b"true" | b"false")
-}
-
-/// Whether a sign stands in a text that begins comments elsewhere.
-fn has_comment(text: &[u8]) -> bool {
-    for i in 0..text.len() {
-        if begins_comment(&text[i..]) {
-            return true;
-        }
-    }
-    false
 }
 
 /// Whether a text has a comma between two digits.
