@@ -3,3 +3,4 @@ pub mod Laws
 mod RangePlaces
 mod Shown
 mod StopLemmas
+mod WordLemmas

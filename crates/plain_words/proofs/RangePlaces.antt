@@ -1,16 +1,30 @@
--- Words that begin with a place in the range file.
-use Rattle.std.proofs.Common.{◌≡◌, ◌≢◌, ℕ, List, [], ◌++◌, refl, ap, ◌∙◌}
-use Rattle.std.specs.Prelude.{codes}
+-- Words that begin with the place of a fault of a range file's entries.
+use Rattle.std.proofs.Common.{◌≡◌, ◌≢◌, ℕ, List, [], ◌∷◌, ◌++◌, refl, sym, ap, ◌∙◌}
+use Rattle.std.specs.Prelude.{codes, IfSome}
+use Rattle.range_faults.specs.declared.fault.EntryFault.{EntryFault}
+use Rattle.range_faults.specs.declared.fault.EntryFault.TheVariants as faults
 use Rattle.plain_words.specs.declared.found.Found.{Found}
 use Rattle.plain_words.specs.Places.{PlanFiles, words_at}
-use Rattle.plain_words.specs.Refusals.{BeginsInRanges}
+use Rattle.plain_words.specs.EntryPlaces.{IsByteOfFault}
+use Rattle.plain_words.specs.EntryTexts.{BeginsAtEntry, IsReasonOfEntry, entry_fault_text}
 use Rattle.plain_words.specs.private.FoundViews.{IsOfRanges, help_text, place_in, place_of}
 
-pub begins_in_ranges : (files : PlanFiles) (found : Found) (wrong words : List ℕ) → IsOfRanges found → wrong ≢ []
-    → words ≡ words_at files (place_of found) (wrong ++ (codes "; " ++ help_text found)) → BeginsInRanges files words
-begins_in_ranges files found wrong words of some says =
-    let text = wrong ++ (codes "; " ++ help_text found) in (
-      found.at,
-      text,
-      (record { wrong = wrong; help = help_text found; some = some; is = refl }, says ∙ ap (λ k. words_at files (place_in k found.at) text) of),
-    )
+-- what a fault names isn't empty
+names_some : (fault : EntryFault) (rest : List ℕ) → entry_fault_text fault ++ rest ≢ []
+names_some (faults.NoSection key) rest = λ ()
+names_some (faults.Entry section entry) rest = λ ()
+names_some (faults.Key section entry key) rest = λ ()
+names_some (faults.Bounds entry) rest = λ ()
+
+pub begins_at_entry : (files : PlanFiles) (fault : EntryFault) (found : Found) (wrong rest words : List ℕ) → IsOfRanges found
+    → IfSome found.at (IsByteOfFault files.ranges.bytes fault) → wrong ≡ entry_fault_text fault ++ rest
+    → words ≡ words_at files (place_of found) (wrong ++ (codes "; " ++ help_text found)) → BeginsAtEntry files fault words
+begins_at_entry files fault found wrong rest words of place is says =
+    let text = wrong ++ (codes "; " ++ help_text found) in
+    let some : wrong ≢ [] = λ none. names_some fault rest (sym is ∙ none) in record {
+      at = found.at;
+      place = place;
+      text = text;
+      reason = record { reason = record { wrong = wrong; help = help_text found; some = some; is = refl }; says = (rest, is) };
+      begins = says ∙ ap (λ k. words_at files (place_in k found.at) text) of;
+    }

@@ -5,5 +5,7 @@ pub mod Helps
 pub mod RefusalTexts
 pub mod Strays
 pub mod Refusals
+pub mod EntryPlaces
+pub mod EntryTexts
 pub mod States
 pub mod private

@@ -98,11 +98,6 @@ pub record BeginsAtRefusal (files : PlanFiles) (refusal : PlanRefusal) (words : 
   pub begins : GivesReasonAt files place refusal words
   pub helps : IfSome (help_of refusal) (λ help. EndsWith (codes "; " ++ help) words)
 
--- the words begin with a place in the range file, and go on with a reason
-abbrev pub BeginsInRanges : PlanFiles → List ℕ → Type 0
-BeginsInRanges files words =
-    (at : Option ℕ) × (text : List ℕ) × (IsReason text × (words ≡ words_at files (in_ranges at) text))
-
 -- what is said of a refused plan: one line that begins with the place of the refusal in the file in which it stands,
 -- and goes on with a reason
 pub record TellsPlan (files : PlanFiles) (words : List ℕ) : Type 0 where

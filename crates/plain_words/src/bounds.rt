@@ -1,7 +1,9 @@
 //! What is wrong with the bounds of an input.
-ghost use Rattle.std.specs.Prelude.{◌≤◌};
+ghost use Rattle.std.specs.Prelude.{◌≡◌, ◌≤◌};
 ghost use Rattle.scaled_decimal.specs.Limits.{most_places};
+ghost use Rattle.plain_words.specs.EntryPlaces.{bound_key_name};
 
+use crate::number_slip::{NumberSlip, SlipWords};
 use crate::quotes::write_quoted;
 use limits_file::{bound_at, places_at};
 use pap_tree::is_kept_at;
@@ -18,11 +20,35 @@ const BOUND_HELP: &str =
 const GROUPED_HELP: &str =
     "write a point before the decimals and nothing between thousands, as \"1234.50\"";
 
+/// A key of an input's entry that its bounds have.
+#[derive(Clone, Copy)]
+pub(crate) enum BoundKey {
+    /// The least value.
+    Low,
+    /// The greatest value.
+    High,
+    /// The most digits after the point.
+    Places,
+}
+
+impl BoundKey {
+    /// The key as it stands in the file.
+    pub(crate) fn name(self) -> &'static str
+        ensures { result.now ≡ bound_key_name self }
+    {
+        match self {
+            BoundKey::Low => "low",
+            BoundKey::High => "high",
+            BoundKey::Places => "places",
+        }
+    }
+}
+
 /// A fault of the bounds of an entry, beside what is told of it.
 #[derive(Clone, Copy)]
 pub(crate) struct BoundFault {
     /// The key at which it is, where it is at one.
-    pub key: Option<&'static str>,
+    pub key: Option<BoundKey>,
     /// What helps.
     pub help: &'static str,
 }
@@ -30,7 +56,7 @@ pub(crate) struct BoundFault {
 /// Appends what is wrong, and gives the key at which that is, and what helps.
 pub(crate) fn write_fault(
     told: &mut String,
-    key: Option<&'static str>,
+    key: Option<BoundKey>,
     wrong: &str,
     help: &'static str,
 ) -> Result<BoundFault, AllocError> {
@@ -44,16 +70,16 @@ pub(crate) fn write_bounds_fault(
     entry: &Table,
 ) -> Result<BoundFault, AllocError> {
     let Some(low) = bound_at(entry, "low") else {
-        return write_no_number(told, "low", entry);
+        return write_no_number(told, BoundKey::Low, entry);
     };
     let Some(high) = bound_at(entry, "high") else {
-        return write_no_number(told, "high", entry);
+        return write_no_number(told, BoundKey::High, entry);
     };
     match places_at(entry) {
         Some(places) if places <= MOST_PLACES => write_range_fault(told, low, high, places),
         _ => write_fault(
             told,
-            Some("places"),
+            Some(BoundKey::Places),
             "places isn't from 0 to 30",
             "places is the number of digits that a value may have after its point",
         ),
@@ -63,23 +89,44 @@ pub(crate) fn write_bounds_fault(
 /// Appends that the value of a bound isn't a number that may stand there.
 fn write_no_number(
     told: &mut String,
-    key: &'static str,
+    key: BoundKey,
     entry: &Table,
 ) -> Result<BoundFault, AllocError> {
     let wrong = "isn't a number that may stand there";
-    let Some(Value::String(text)) = entry.get(key) else {
-        write!(told, "{key} ")?;
+    let name = key.name();
+    let Some(Value::String(text)) = entry.get(name) else {
+        write!(told, "{name} ")?;
         return write_fault(told, Some(key), wrong, BOUND_HELP);
     };
-    write!(told, "{key}, which is ")?;
-    write_quoted(told, text.as_bytes(), 0)?;
-    told.push_str(", ")?;
-    let help = if is_grouped(text.as_bytes()) {
-        GROUPED_HELP
-    } else {
-        BOUND_HELP
-    };
-    write_fault(told, Some(key), wrong, help)
+    let text = text.as_bytes();
+    if text.is_empty() {
+        write!(told, "{name} has nothing in its quotation marks")?;
+        return write_fault(told, Some(key), "", "write its number there, as \"9.5\"");
+    }
+    write!(told, "{name}, which is ")?;
+    write_quoted(told, text, 0)?;
+    if is_grouped(text) {
+        told.push_str(", ")?;
+        return write_fault(told, Some(key), wrong, GROUPED_HELP);
+    }
+    match bound_slip(text) {
+        Some(SlipWords { has, help }) => {
+            told.push_str(", has ")?;
+            write_fault(told, Some(key), has, help)
+        }
+        None => {
+            told.push_str(", ")?;
+            write_fault(told, Some(key), wrong, BOUND_HELP)
+        }
+    }
+}
+
+/// What a text has that is no number, where that is known; of one without digits round its comma that is more than the comma.
+fn bound_slip(text: &[u8]) -> Option<SlipWords> {
+    match NumberSlip::of(text) {
+        NumberSlip::Comma => None,
+        slip => slip.words(),
+    }
 }
 
 /// Whether a text has digits, and a comma, a blank, an apostrophe, a `_` or more than one point.
@@ -111,10 +158,10 @@ fn write_range_fault(
         });
     }
     if !is_kept_at(low, places) {
-        return write_places_fault(told, "low", low, places);
+        return write_places_fault(told, BoundKey::Low, low, places);
     }
     if !is_kept_at(high, places) {
-        return write_places_fault(told, "high", high, places);
+        return write_places_fault(told, BoundKey::High, high, places);
     }
     write_fault(
         told,
@@ -127,13 +174,14 @@ fn write_range_fault(
 /// Appends that a bound has no such number of places.
 fn write_places_fault(
     told: &mut String,
-    key: &'static str,
+    key: BoundKey,
     bound: Dec,
     places: u8,
 ) -> Result<BoundFault, AllocError> {
+    let name = key.name();
     write!(
         told,
-        "{key}, which is {bound}, has more digits after its point than places, which is {places}, or is beyond 10^37 with so many"
+        "{name}, which is {bound}, has more digits after its point than places, which is {places}, or is beyond 10^37 with so many"
     )?;
     Ok(BoundFault {
         key: Some(key),

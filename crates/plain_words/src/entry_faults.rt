@@ -1,13 +1,15 @@
 //! All faults of a range file's entries, each in words of its own.
-ghost use Rattle.std.specs.Prelude.{◌≢◌, IfOk, []};
+ghost use Rattle.std.specs.Prelude.{◌≡◌, ◌⊎◌, IfOk, IfSome};
 ghost use Rattle.std.specs.String.{string_bytes};
+ghost use Rattle.range_faults.specs.declared.fault.EntryFault.TheVariants as faulty;
 ghost use Rattle.plain_words.specs.Lines.{IsOneLine};
 ghost use Rattle.plain_words.specs.Places.{files_of};
-ghost use Rattle.plain_words.specs.Refusals.{BeginsInRanges};
+ghost use Rattle.plain_words.specs.EntryPlaces.{IsAtBound, IsByteOfFault, IsLineWith};
+ghost use Rattle.plain_words.specs.EntryTexts.{BeginsAtEntry, entry_fault_text, entry_text};
 ghost use Rattle.plain_words.specs.private.FoundViews.{IsOfRanges};
 
-use crate::bounds::{BoundFault, write_bounds_fault, write_fault};
-use crate::entry_lines::{key_byte, section_byte};
+use crate::bounds::{BoundFault, BoundKey, write_bounds_fault, write_fault};
+use crate::entry_lines::{entry_byte, key_byte, section_byte};
 use crate::found::Found;
 use crate::place::TextFile;
 use crate::reason::reason_line;
@@ -26,23 +28,61 @@ pub fn entry_words(
     fault: &EntryFault,
 ) -> Result<String, AllocError>
     ensures line { IfOk result (λ words. IsOneLine (string_bytes words)) }
-    ensures place { IfOk result
-        (λ words. BeginsInRanges (files_of plan.entry limits.entry) (string_bytes words)) }
+    ensures place { IfOk result (λ words.
+        BeginsAtEntry (files_of plan.entry limits.entry) fault.now (string_bytes words)) }
 {
-    let mut told = String::new(alloc);
-    let found = find_fault(limits, table, fault, &mut told)?;
-    let wrong = told_text(told)?;
+    let front = fault_front(alloc, fault)?;
+    let mut rest = String::new(alloc);
+    let found = find_fault(limits, table, fault, &mut rest)?;
+    let wrong = format!(in alloc; "{front}{rest}")?;
     reason_line(alloc, plan, limits, found, &wrong)
 }
 
-/// What is wrong, which is never empty.
-fn told_text(told: String) -> Result<String, AllocError>
-    ensures { IfOk result (λ wrong. string_bytes wrong ≢ []) }
+/// What a fault names.
+fn fault_front(alloc: Global, fault: &EntryFault) -> Result<String, AllocError>
+    ensures { IfOk result (λ text. string_bytes text ≡ entry_fault_text fault.now) }
 {
-    if told.is_empty() {
-        return String::from_str(*told.allocator(), "the entry is refused");
+    match fault {
+        EntryFault::NoSection { key } => format!(in alloc; "the key {} ", key.as_str()),
+        EntryFault::Entry { section, entry } => entry_front(alloc, *section, entry.as_str()),
+        EntryFault::Key {
+            section,
+            entry,
+            key,
+        } => key_front(alloc, *section, entry.as_str(), key.as_str()),
+        EntryFault::Bounds { entry } => bounds_front(alloc, entry.as_str()),
     }
-    Ok(told)
+}
+
+/// An entry by its heading.
+fn entry_front(alloc: Global, section: Section, entry: &str) -> Result<String, AllocError>
+    ensures { IfOk result (λ text. string_bytes text ≡ entry_text section entry.now) }
+{
+    let table = section.name();
+    format!(in alloc; "the entry [{table}.{entry}] ")
+}
+
+/// A key in an entry.
+fn key_front(
+    alloc: Global,
+    section: Section,
+    entry: &str,
+    key: &str,
+) -> Result<String, AllocError>
+    ensures { IfOk result (λ text.
+        string_bytes text ≡ entry_fault_text (faulty.Key section entry.now key.now)) }
+{
+    let entry = entry_front(alloc, section, entry)?;
+    format!(in alloc; "in {entry}the key {key} ")
+}
+
+/// The bounds in an entry.
+fn bounds_front(alloc: Global, entry: &str) -> Result<String, AllocError>
+    ensures { IfOk result (λ text.
+        string_bytes text ≡ entry_fault_text (faulty.Bounds entry.now)) }
+{
+    let entry = entry_front(alloc, Section::Input, entry)?;
+    format!(in alloc; "in {entry}")
 }
 
 /// Where the first fault of a range file's entries is; what is wrong is appended.
@@ -53,20 +93,24 @@ pub(crate) fn find_first(limits: TextFile<'_>, told: &mut String) -> Result<Foun
     if let Some(table) = read_table(alloc, limits.bytes)? {
         let faults = file_faults(alloc, &table)?;
         if let Some(fault) = faults.first() {
+            let front = fault_front(alloc, fault)?;
+            told.push_str(&front)?;
             return find_fault(limits, &table, fault, told);
         }
     }
     Ok(Found::in_ranges(None))
 }
 
-/// Where a fault of a range file's table is; what is wrong is appended.
+/// Where a fault of a range file's table is; what is wrong there is appended, behind what the fault names.
 fn find_fault(
     limits: TextFile<'_>,
     table: &Table,
     fault: &EntryFault,
     told: &mut String,
 ) -> Result<Found, AllocError>
-    ensures { IfOk result (λ found. IsOfRanges found) }
+    ensures file { IfOk result (λ found. IsOfRanges found) }
+    ensures at { IfOk result
+        (λ found. IfSome found.at (IsByteOfFault limits.bytes.now fault.now)) }
 {
     match fault {
         EntryFault::NoSection { key } => find_section(limits, key.as_str(), told),
@@ -84,21 +128,26 @@ fn find_fault(
 
 /// Where a key of the file stands that is none of its tables; that is appended.
 fn find_section(limits: TextFile<'_>, key: &str, told: &mut String) -> Result<Found, AllocError>
-    ensures { IfOk result (λ found. IsOfRanges found) }
+    ensures file { IfOk result (λ found. IsOfRanges found) }
+    ensures at { IfOk result (λ found. IfSome found.at (IsLineWith limits.bytes.now key.now)) }
 {
-    let at = section_byte(limits.bytes, key.as_bytes());
-    if is_entry_key(key) {
-        write!(told, "the key {key} stands before the heading of its entry")?;
-        let help = "write that heading above it, as [input.NAME]";
-        return Ok(Found::in_ranges(at).with_help(help));
-    }
-    if key == Section::Bind.name() || key == Section::Input.name() {
-        write!(told, "the key {key} isn't a table of entries")?;
+    let at = section_byte(limits.bytes, key);
+    told.push_str(if is_entry_key(key) {
+        "stands above all headings, in no entry"
+    } else if key == Section::Bind.name() || key == Section::Input.name() {
+        "isn't a table of entries"
     } else {
-        write!(told, "the key {key} isn't one of a range file")?;
+        "isn't one of a range file"
+    })?;
+    Ok(Found::in_ranges(at).with_help(section_help(key)))
+}
+
+/// What helps against a key of the file that is none of its tables.
+fn section_help(key: &str) -> &'static str {
+    if is_entry_key(key) {
+        return "write the heading of its entry above it, as [input.NAME]";
     }
-    let help = "a range file has entries [input.NAME] and [bind.NAME] alone";
-    Ok(Found::in_ranges(at).with_help(help))
+    "a range file has entries [input.NAME] and [bind.NAME] alone"
 }
 
 /// Where an entry stands that fails by its own key; why is appended.
@@ -109,10 +158,11 @@ fn find_entry(
     name: &str,
     told: &mut String,
 ) -> Result<Found, AllocError>
-    ensures { IfOk result (λ found. IsOfRanges found) }
+    ensures file { IfOk result (λ found. IsOfRanges found) }
+    ensures at { IfOk result (λ found. IfSome found.at (IsLineWith limits.bytes.now name.now)) }
 {
     let help = write_entry_fault(told, section, name, value_of(table, section, name))?;
-    let at = key_byte(limits.bytes, section, name, None);
+    let at = entry_byte(limits.bytes, section, name);
     Ok(Found::in_ranges(at).with_help(help))
 }
 
@@ -125,13 +175,15 @@ fn find_key(
     key: &str,
     told: &mut String,
 ) -> Result<Found, AllocError>
-    ensures { IfOk result (λ found. IsOfRanges found) }
+    ensures file { IfOk result (λ found. IsOfRanges found) }
+    ensures at { IfOk result (λ found. IfSome found.at
+        (λ at. IsLineWith limits.bytes.now key.now at ⊎ IsLineWith limits.bytes.now name.now at)) }
 {
-    let at = key_byte(limits.bytes, section, name, Some(key));
+    let at = key_byte(limits.bytes, section, name, key);
     let found = Found::in_ranges(at);
     match value_of(table, section, name) {
         Some(Value::Table(entry)) => {
-            Ok(found.with_help(write_key_fault(told, section, name, key, entry)?))
+            Ok(found.with_help(write_key_fault(told, section, key, entry)?))
         }
         _ => Ok(found),
     }
@@ -144,15 +196,25 @@ fn find_bounds(
     name: &str,
     told: &mut String,
 ) -> Result<Found, AllocError>
-    ensures { IfOk result (λ found. IsOfRanges found) }
+    ensures file { IfOk result (λ found. IsOfRanges found) }
+    ensures at { IfOk result (λ found. IfSome found.at (IsAtBound limits.bytes.now name.now)) }
 {
-    write!(told, "in the entry [input.{name}] ")?;
     let fault: BoundFault = match value_of(table, Section::Input, name) {
         Some(Value::Table(entry)) => write_bounds_fault(told, entry)?,
         _ => write_fault(told, None, "a bound breaks its rule", "correct the entry")?,
     };
-    let at = key_byte(limits.bytes, Section::Input, name, fault.key);
+    let at = bounds_byte(limits.bytes, name, fault.key);
     Ok(Found::in_ranges(at).with_help(fault.help))
+}
+
+/// The byte of the line of a bound of an input's entry, or of the entry.
+fn bounds_byte(limits: &[u8], name: &str, key: Option<BoundKey>) -> Option<usize>
+    ensures { IfSome result (IsAtBound limits.now name.now) }
+{
+    match key {
+        Some(key) => key_byte(limits, Section::Input, name, key.name()),
+        None => entry_byte(limits, Section::Input, name),
+    }
 }
 
 /// The value of an entry.

@@ -54,6 +54,7 @@ impl Found {
     /// The same with this as what helps, and nothing behind it.
     pub(crate) fn with_help(self, help: &'static str) -> Found
         ensures file { result.file ≡ self.file }
+        ensures at { result.at ≡ self.at }
         ensures place { place_of result ≡ place_of self }
         ensures help { help_text result ≡ help.now }
     {

@@ -16,6 +16,7 @@ mod encoding;
 mod entry_faults;
 mod entry_lines;
 mod expressions;
+mod file_lines;
 mod found;
 mod group;
 mod help;

@@ -28,70 +28,54 @@ fn form(section: Section) -> &'static str {
     }
 }
 
-/// Appends why an entry fails by its own key, and gives what helps: its value is no table, its name isn't that of an input, or it lacks
-/// keys.
+/// Appends, behind the name of an entry, why it fails by its own key, and gives what helps: its value is no table, its name isn't that of
+/// an input, or it lacks keys.
 pub(crate) fn write_entry_fault(
     told: &mut String,
     section: Section,
     name: &str,
     value: Option<&Value>,
 ) -> Result<&'static str, AllocError> {
-    let table = section.name();
     match value {
         Some(Value::Table(_)) if Name::read(name.as_bytes()).is_none() => {
-            write!(
-                told,
-                "the entry [{table}.{name}] doesn't have the name of an input"
-            )?;
+            told.push_str("doesn't have the name of an input")?;
             Ok("an entry has the name of an input: a letter or _, and then letters, digits and _")
         }
         Some(Value::Table(entry)) => {
-            write_lacking(told, section, name, entry)?;
+            write_lacking(told, section, entry)?;
             Ok(rule(section))
         }
         Some(Value::Array(_)) => {
-            write!(
-                told,
-                "the key {name} of the table [{table}] is a list, as a heading in double brackets begins one"
-            )?;
+            told.push_str("is a list, as a heading in double brackets begins one")?;
             Ok("write the heading of an entry in single brackets, as [input.NAME]")
         }
         _ => {
-            write!(
-                told,
-                "the key {name} of the table [{table}] isn't an entry with keys of its own"
-            )?;
+            told.push_str("has a value in place of keys of its own")?;
             Ok(form(section))
         }
     }
 }
 
-/// Appends what is wrong with a key of an entry that it doesn't have, or whose value isn't of its form, and gives what helps.
+/// Appends, behind the name of a key of an entry, that it isn't one of its keys, or that its value isn't of its form, and gives what helps.
 pub(crate) fn write_key_fault(
     told: &mut String,
     section: Section,
-    name: &str,
     key: &str,
     entry: &Table,
 ) -> Result<&'static str, AllocError> {
-    let table = section.name();
     if !has_key(section, key) {
-        write!(
-            told,
-            "the entry [{table}.{name}] has a key {key}, which isn't one of its keys"
-        )?;
+        told.push_str("isn't one of its keys")?;
         return Ok(rule(section));
     }
-    write!(told, "in the entry [{table}.{name}] ")?;
     if key == "output" && counts(entry) {
-        told.push_str("kind is \"count\", which has no output")?;
+        told.push_str("stands beside kind = \"count\", which has no output")?;
         return Ok("take output out");
     }
     if (key == "low" || key == "high") && is_unquoted(entry, key) {
-        write!(told, "{key} is a decimal without quotation marks")?;
+        told.push_str("has a decimal without quotation marks")?;
         return Ok("write it in quotation marks, as high = \"9.5\"");
     }
-    write!(told, "the value of {key} isn't of its form")?;
+    told.push_str("has a value that isn't of its form")?;
     Ok(rule(section))
 }
 
@@ -104,17 +88,11 @@ fn needed_keys(section: Section, entry: &Table) -> &'static [&'static str] {
     }
 }
 
-/// Appends which keys an entry lacks: `the key high`, `the keys low, high and places`.
-fn write_lacking(
-    told: &mut String,
-    section: Section,
-    name: &str,
-    entry: &Table,
-) -> Result<(), AllocError> {
-    let table = section.name();
+/// Appends which keys an entry lacks: `lacks the key high`, `lacks the keys low, high and places`.
+fn write_lacking(told: &mut String, section: Section, entry: &Table) -> Result<(), AllocError> {
     let count = count_lacking(section, entry);
     let noun = if count == 1 { "key" } else { "keys" };
-    write!(told, "the entry [{table}.{name}] lacks the {noun}")?;
+    write!(told, "lacks the {noun}")?;
     let mut before = 0usize;
     for key in needed_keys(section, entry) {
         if entry.get(*key).is_none() {
