@@ -7,7 +7,8 @@ use Rattle.range_faults.specs.declared.fault.EntryFault.{EntryFault}
 use Rattle.plain_words.specs.declared.state.RunReason.{RunReason}
 use Rattle.plain_words.specs.Lines.{IsOneLine}
 use Rattle.plain_words.specs.Places.{PlanFiles}
-use Rattle.plain_words.specs.Refusals.{BeginsAtRefusal, BeginsInRanges}
+use Rattle.plain_words.specs.Refusals.{BeginsAtRefusal}
+use Rattle.plain_words.specs.EntryTexts.{BeginsAtEntry}
 use Rattle.plain_words.specs.States.{SaysState}
 
 -- so many faults are told, each in a line
@@ -33,10 +34,10 @@ pub record IsPlanLine (files : PlanFiles) (refusal : PlanRefusal) (words : List 
   pub line : IsOneLine words
   pub begins : BeginsAtRefusal files refusal words
 
--- the words say in one line, which begins with a place in the range file, what is wrong with a key of it
+-- the words say in one line, which begins with the fault's place in the range file, what is wrong with what the fault names
 pub record IsEntryLine (files : PlanFiles) (fault : EntryFault) (words : List ℕ) : Type 0 where
   pub line : IsOneLine words
-  pub begins : BeginsInRanges files words
+  pub begins : BeginsAtEntry files fault words
 
 -- the words say in one line why a run of these files' plan has no inputs
 pub record IsStateLine (files : PlanFiles) (reason : RunReason) (words : List ℕ) : Type 0 where

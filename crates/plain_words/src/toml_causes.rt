@@ -28,7 +28,7 @@ pub(crate) fn write_cause(
     if message == "duplicate key" {
         told.push_str(": ")?;
         write_quoted(told, line.trim_ascii(), 0)?;
-        return told.push_str(" stands there though its key has a value above; take one of the two out");
+        return told.push_str(" stands there though its key has a value above: take one of the two out");
     }
     let before = told.len();
     write_line_cause(told, line)?;
@@ -75,15 +75,15 @@ fn reader_words(message: &str) -> &str {
             "an entry in braces has commas between its keys and } at its end, in one line"
         }
         "invalid string" => "a text in quotation marks ends with its mark, in one line",
-        "invalid escape sequence" => "a \\ stands in quotation marks; take it out",
+        "invalid escape sequence" => "a \\ stands in quotation marks: take it out",
         "invalid value, expected a string, number, boolean, date-time, array or inline table" => {
             "a value is a whole number, or stands in quotation marks, as in high = \"9.5\""
         }
         "`_` may only go between digits" => "a _ stands in a number, and not between digits",
         "number out of range" => "a number beyond 64 bits stands in quotation marks",
-        "invalid date-time" => "a value begins as a date does, and isn't one; a bound is a number",
+        "invalid date-time" => "a value begins as a date does, and a bound is a number",
         "cannot extend a value with a dotted key" => {
-            "a key with a point goes on with one that has a value already; take one of the two out"
+            "a key with a point goes on with one that has a value already: take one of the two out"
         }
         "cannot recurse further; max recursion depth met" => "there are too many open brackets",
         _ => message,

@@ -29,7 +29,7 @@ fn heading_cause(line: &[u8]) -> &'static str {
         return ": a heading stands in single brackets, as [input.NAME]";
     }
     if end.saturating_add(1) < line.len() {
-        return ": nothing stands behind a heading; its keys have lines of their own";
+        return ": nothing stands behind a heading, and its keys have lines of their own";
     }
     if !line.contains(&b'.') {
         return ": a heading has a point before the name of its entry, as [input.NAME]";
@@ -82,7 +82,7 @@ fn write_quote_cause(told: &mut String, value: &[u8]) -> Result<(), AllocError> 
 fn rest_cause(rest: &[u8]) -> &'static str {
     match rest {
         [] => "",
-        b";" => ": no ; stands behind a value; take it out",
+        b";" => ": no ; stands behind a value",
         _ if begins_comment(rest) => ": a comment begins with #",
         _ if rest.contains(&b'=') => ": each key has a line of its own",
         _ => ": nothing stands behind a value but a comment, which begins with #",
