@@ -63,12 +63,7 @@ fn entry_front(alloc: Global, section: Section, entry: &str) -> Result<String, A
 }
 
 /// A key in an entry.
-fn key_front(
-    alloc: Global,
-    section: Section,
-    entry: &str,
-    key: &str,
-) -> Result<String, AllocError>
+fn key_front(alloc: Global, section: Section, entry: &str, key: &str) -> Result<String, AllocError>
     ensures { IfOk result (λ text.
         string_bytes text ≡ entry_fault_text (faulty.Key section entry.now key.now)) }
 {
@@ -110,7 +105,7 @@ fn find_fault(
 ) -> Result<Found, AllocError>
     ensures file { IfOk result (λ found. IsOfRanges found) }
     ensures at { IfOk result
-        (λ found. IfSome found.at (IsByteOfFault limits.bytes.now fault.now)) }
+        (λ found. IfSome found.at (IsByteOfFault limits.entry.bytes.now fault.now)) }
 {
     match fault {
         EntryFault::NoSection { key } => find_section(limits, key.as_str(), told),
@@ -129,7 +124,7 @@ fn find_fault(
 /// Where a key of the file stands that is none of its tables; that is appended.
 fn find_section(limits: TextFile<'_>, key: &str, told: &mut String) -> Result<Found, AllocError>
     ensures file { IfOk result (λ found. IsOfRanges found) }
-    ensures at { IfOk result (λ found. IfSome found.at (IsLineWith limits.bytes.now key.now)) }
+    ensures at { IfOk result (λ found. IfSome found.at (IsLineWith limits.entry.bytes.now key.now)) }
 {
     let at = section_byte(limits.bytes, key);
     told.push_str(if is_entry_key(key) {
@@ -159,7 +154,7 @@ fn find_entry(
     told: &mut String,
 ) -> Result<Found, AllocError>
     ensures file { IfOk result (λ found. IsOfRanges found) }
-    ensures at { IfOk result (λ found. IfSome found.at (IsLineWith limits.bytes.now name.now)) }
+    ensures at { IfOk result (λ found. IfSome found.at (IsLineWith limits.entry.bytes.now name.now)) }
 {
     let help = write_entry_fault(told, section, name, value_of(table, section, name))?;
     let at = entry_byte(limits.bytes, section, name);
@@ -177,7 +172,7 @@ fn find_key(
 ) -> Result<Found, AllocError>
     ensures file { IfOk result (λ found. IsOfRanges found) }
     ensures at { IfOk result (λ found. IfSome found.at
-        (λ at. IsLineWith limits.bytes.now key.now at ⊎ IsLineWith limits.bytes.now name.now at)) }
+        (λ at. IsLineWith limits.entry.bytes.now key.now at ⊎ IsLineWith limits.entry.bytes.now name.now at)) }
 {
     let at = key_byte(limits.bytes, section, name, key);
     let found = Found::in_ranges(at);
@@ -197,7 +192,7 @@ fn find_bounds(
     told: &mut String,
 ) -> Result<Found, AllocError>
     ensures file { IfOk result (λ found. IsOfRanges found) }
-    ensures at { IfOk result (λ found. IfSome found.at (IsAtBound limits.bytes.now name.now)) }
+    ensures at { IfOk result (λ found. IfSome found.at (IsAtBound limits.entry.bytes.now name.now)) }
 {
     let fault: BoundFault = match value_of(table, Section::Input, name) {
         Some(Value::Table(entry)) => write_bounds_fault(told, entry)?,

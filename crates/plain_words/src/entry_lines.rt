@@ -41,12 +41,7 @@ pub(crate) fn entry_byte(limits: &[u8], section: Section, entry: &str) -> Option
 }
 
 /// The byte of the line of a key of an entry; where it has no line of its own, that of the entry.
-pub(crate) fn key_byte(
-    limits: &[u8],
-    section: Section,
-    entry: &str,
-    key: &str,
-) -> Option<usize>
+pub(crate) fn key_byte(limits: &[u8], section: Section, entry: &str, key: &str) -> Option<usize>
     ensures { IfSome result (λ at. IsLineWith limits.now key.now at ⊎ IsLineWith limits.now entry.now at) }
 {
     match own_line(limits, section, entry, key) {

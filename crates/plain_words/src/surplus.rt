@@ -66,8 +66,8 @@ fn split_value(row: &TableRow) -> Option<usize> {
 
 /// The place of the first field with a whole number, of at least so many bytes, before a field with so many digits.
 fn find_decimals(row: &TableRow, count: usize, least: usize) -> Option<usize> {
-    (BEFORE_VALUES..row.len().saturating_sub(1))
-        .find(|place| row.field(*place).len() >= least && has_decimals(row, *place, count))
+    (BEFORE_VALUES..row.len().saturating_sub(1)).find(|place| row.field(*place).len() >= least
+        && has_decimals(row, *place, count))
 }
 
 /// Whether the field at a place is the whole part of a number, and the next has so many digits.
@@ -79,10 +79,8 @@ fn has_decimals(row: &TableRow, place: usize, count: usize) -> bool {
 /// Whether a text is a whole number, with points between its thousands or without.
 fn is_whole(text: &[u8]) -> bool {
     let unsigned = text.strip_prefix(b"-").unwrap_or(text);
-    unsigned
-        .split(|byte| *byte == b'.')
-        .enumerate()
-        .all(|(before, group)| is_digits(group) && (before == 0 || group.len() == 3))
+    unsigned.split(|byte| *byte == b'.').enumerate().all(|(before, group)| is_digits(group)
+        && (before == 0 || group.len() == 3))
 }
 
 /// Whether a text has a digit, and nothing else.

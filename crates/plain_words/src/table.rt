@@ -104,7 +104,9 @@ fn fault_place(
 /// Appends how many fields a row has, and how many the header has, and what helps.
 fn write_width_fault(told: &mut String, table: &[u8], row: &TableRow) -> Result<(), AllocError> {
     if begins_comment(row) {
-        return told.push_str("it begins as a comment does, and a table has no comments; take the row out");
+        return told.push_str(
+            "it begins as a comment does, and a table has no comments; take the row out",
+        );
     }
     let found = row.len();
     let noun = if found == 1 { "field" } else { "fields" };

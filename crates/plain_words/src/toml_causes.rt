@@ -28,7 +28,9 @@ pub(crate) fn write_cause(
     if message == "duplicate key" {
         told.push_str(": ")?;
         write_quoted(told, line.trim_ascii(), 0)?;
-        return told.push_str(" stands there though its key has a value above: take one of the two out");
+        return told.push_str(
+            " stands there though its key has a value above: take one of the two out",
+        );
     }
     let before = told.len();
     write_line_cause(told, line)?;
