@@ -8,9 +8,9 @@ use Rattle.plain_words.specs.declared.bounds.BoundKey.TheVariants as bounds
 use Rattle.plain_words.specs.Lines.{EndsWith}
 use Rattle.plain_words.specs.Positions.{is_line_feed}
 
--- the byte stands in a line, and doesn't end it
-abbrev pub is_in_line : ℕ → Bool
-is_in_line byte = not (is_line_feed byte)
+-- the byte doesn't end a line
+abbrev pub is_no_line_feed : ℕ → Bool
+is_no_line_feed byte = not (is_line_feed byte)
 
 -- a line of a text begins at this byte: at the first, and right behind each line feed
 abbrev pub IsLineStart : List ℕ → ℕ → Type 0
@@ -18,7 +18,7 @@ IsLineStart text at = (at ≡ 0) ⊎ (is_line_feed (get_or text (at - 1) 0) ≡ 
 
 -- the text from a byte up to the end of its line
 abbrev pub line_from : List ℕ → ℕ → List ℕ
-line_from text at = take_while is_in_line (drop at text)
+line_from text at = take_while is_no_line_feed (drop at text)
 
 -- the text has this word in it
 pub record HasWord (text word : List ℕ) : Type 0 where

@@ -10,17 +10,17 @@ use Rattle.plain_words.specs.Places.{PlanFiles, in_ranges, words_at, IsReason}
 use Rattle.plain_words.specs.EntryPlaces.{IsByteOfFault}
 
 -- an entry by its heading
-abbrev pub entry_text : Section → List ℕ → List ℕ
-entry_text section entry =
+abbrev pub headed_entry_text : Section → List ℕ → List ℕ
+headed_entry_text section entry =
     codes "the entry [" ++ (section_name section ++ (codes "." ++ (entry ++ codes "] ")))
 
 -- what a fault names: a key of the file, an entry, a key in an entry, or the bounds in one
 abbrev pub entry_fault_text : EntryFault → List ℕ
 entry_fault_text (faults.NoSection key) = codes "the key " ++ (key ++ codes " ")
-entry_fault_text (faults.Entry section entry) = entry_text section entry
+entry_fault_text (faults.Entry section entry) = headed_entry_text section entry
 entry_fault_text (faults.Key section entry key) =
-    codes "in " ++ (entry_text section entry ++ (codes "the key " ++ (key ++ codes " ")))
-entry_fault_text (faults.Bounds entry) = codes "in " ++ entry_text Input entry
+    codes "in " ++ (headed_entry_text section entry ++ (codes "the key " ++ (key ++ codes " ")))
+entry_fault_text (faults.Bounds entry) = codes "in " ++ headed_entry_text Input entry
 
 -- the text of a reason, in which what is wrong starts with what this fault names
 pub record IsReasonOfEntry (fault : EntryFault) (text : List ℕ) : Type 0 where

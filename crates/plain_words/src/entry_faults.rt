@@ -5,7 +5,7 @@ ghost use Rattle.range_faults.specs.declared.fault.EntryFault.TheVariants as fau
 ghost use Rattle.plain_words.specs.Lines.{IsOneLine};
 ghost use Rattle.plain_words.specs.Places.{files_of};
 ghost use Rattle.plain_words.specs.EntryPlaces.{IsAtBound, IsByteOfFault, IsLineWith};
-ghost use Rattle.plain_words.specs.EntryTexts.{BeginsAtEntry, entry_fault_text, entry_text};
+ghost use Rattle.plain_words.specs.EntryTexts.{BeginsAtEntry, entry_fault_text, headed_entry_text};
 ghost use Rattle.plain_words.specs.private.FoundViews.{IsOfRanges};
 
 use crate::bounds::{BoundFault, BoundKey, write_bounds_fault, write_fault};
@@ -56,7 +56,7 @@ fn fault_front(alloc: Global, fault: &EntryFault) -> Result<String, AllocError>
 
 /// An entry by its heading.
 fn entry_front(alloc: Global, section: Section, entry: &str) -> Result<String, AllocError>
-    ensures { IfOk result (λ text. string_bytes text ≡ entry_text section entry.now) }
+    ensures { IfOk result (λ text. string_bytes text ≡ headed_entry_text section entry.now) }
 {
     let table = section.name();
     format!(in alloc; "the entry [{table}.{entry}] ")

@@ -3,7 +3,7 @@ ghost use Rattle.std.specs.Prelude.{◌≡◌, ◌≢◌, ◌≤◌, ◌++◌, �
 ghost use Rattle.std.specs.List.{prefix_len, take_while};
 ghost use Rattle.plain_words.specs.Lines.{EndsWith};
 ghost use Rattle.plain_words.specs.Positions.{is_line_feed};
-ghost use Rattle.plain_words.specs.EntryPlaces.{is_in_line, line_from, IsLineStart};
+ghost use Rattle.plain_words.specs.EntryPlaces.{is_no_line_feed, line_from, IsLineStart};
 
 /// Whether a line of a text begins at a byte.
 pub(crate) fn begins_line(text: &[u8], at: usize) -> bool
@@ -23,22 +23,24 @@ pub(crate) fn line_at(text: &[u8], at: usize) -> &[u8]
 
 /// The line with which a text begins.
 fn front_line(text: &[u8]) -> &[u8]
-    ensures { result.now ≡ take_while is_in_line text.now }
+    ensures { result.now ≡ take_while is_no_line_feed text.now }
 {
     text.split_at(line_len(text)).0
 }
 
 /// How many bytes the line has with which a text begins.
 fn line_len(text: &[u8]) -> usize
-    ensures count { result ≡ prefix_len is_in_line text.now }
+    ensures count { result ≡ prefix_len is_no_line_feed text.now }
     ensures within { result ≤ length text.now }
 {
-    text.iter().take_while(|byte| is_in_line(**byte)).count()
+    text.iter()
+        .take_while(|byte| is_no_line_feed(**byte))
+        .count()
 }
 
-/// Whether a byte stands in a line, and doesn't end it.
-fn is_in_line(byte: u8) -> bool
-    ensures { result ≡ is_in_line byte }
+/// Whether a byte doesn't end a line.
+fn is_no_line_feed(byte: u8) -> bool
+    ensures { result ≡ is_no_line_feed byte }
 {
     byte != b'\n'
 }
