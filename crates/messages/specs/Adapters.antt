@@ -1,5 +1,5 @@
 -- What contracts see of the sinks of answers and of messages.
-use Rattle.std.specs.Prelude.{ℕ, ◌+◌, List, Option}
+use Rattle.std.specs.Prelude.{ℕ, ◌+◌, Bool, List, Option}
 use Rattle.outside.specs.Told.{Appends}
 use Rattle.outside.specs.declared.traits.Sink.{Ghosts as SinkTells}
 use Rattle.messages.specs.declared.answer_sink.AnswerSink.{AnswerSink}
@@ -11,6 +11,10 @@ use Rattle.messages.specs.Objects.{AreObjects}
 -- the sink below answers
 abbrev pub answers_below : {S : Type 0} → AnswerSink S → S
 answers_below answers = answers.inner
+
+-- whether of these answers the last refusal is kept for the next message
+abbrev pub keeps_refusals : {S : Type 0} → AnswerSink S → Bool
+keeps_refusals answers = answers.keeps
 
 -- the sink below messages
 abbrev pub sink_below : {S : Type 0} → MessageSink S → S

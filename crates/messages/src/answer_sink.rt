@@ -1,8 +1,8 @@
 //! Answers on their way out, of which the last refusal is kept.
-ghost use Rattle.std.specs.Prelude.{◌≡◌, ◌<◌, ◌≤◌, length, IfOk};
+ghost use Rattle.std.specs.Prelude.{◌≡◌, ◌<◌, ◌≤◌, ◌↔◌, ◌++◌, IfOk, IsTrue, codes, length};
 ghost use Rattle.outside.specs.Causes.{HasCause};
 ghost use Rattle.outside.specs.Told.{WriteAppends};
-ghost use Rattle.messages.specs.Adapters.{answers_below};
+ghost use Rattle.messages.specs.Adapters.{answers_below, keeps_refusals};
 
 use crate::form::MessageForm;
 use outside::{Failed, Sink};
@@ -37,7 +37,7 @@ impl LastRefusal {
     /// Whether the last answer is a refusal of this group and name alone, as `book Filed`, and wasn't taken before.
     pub fn is_of(&self, code: &str) -> bool {
         let answer = self.take();
-        let is_so = answer.as_slice().strip_prefix(b"refused ") == Some(code.as_bytes());
+        let is_so = is_refusal(&answer, code);
         let _ = self.text.try_replace(answer);
         is_so
     }
@@ -48,6 +48,16 @@ impl LastRefusal {
             Ok(text) => text,
             Err(_) => Vec::new(self.alloc),
         }
+    }
+}
+
+/// Whether an answer is a refusal of this group and name alone.
+fn is_refusal(answer: &[u8], code: &str) -> bool
+    ensures { IsTrue result ↔ (answer.now ≡ codes "refused " ++ code.now) }
+{
+    match answer.strip_prefix(b"refused ") {
+        Some(refused) => refused == code.as_bytes(),
+        None => false,
     }
 }
 
@@ -70,7 +80,8 @@ pub struct AnswerSink<'a, S: Sink + Drop> {
 impl<'a, S: Sink + Drop> AnswerSink<'a, S> {
     /// What goes to this sink. It is untouched. A refusal is kept only where messages are written as JSON.
     pub fn new(inner: S, form: MessageForm, last: &'a LastRefusal) -> Self
-        ensures { answers_below result ≡ inner }
+        ensures sink { answers_below result ≡ inner }
+        ensures keeps { IsTrue (keeps_refusals result) ↔ (form ≡ MessageForm.Json) }
     {
         AnswerSink {
             inner,
@@ -81,7 +92,8 @@ impl<'a, S: Sink + Drop> AnswerSink<'a, S> {
 
     /// What goes to this sink, of which the last refusal is kept in any form. It is untouched.
     pub fn keeping(inner: S, last: &'a LastRefusal) -> Self
-        ensures { answers_below result ≡ inner }
+        ensures sink { answers_below result ≡ inner }
+        ensures keeps { IsTrue (keeps_refusals result) }
     {
         AnswerSink {
             inner,
@@ -111,6 +123,9 @@ impl<S: Sink + Drop> Sink for AnswerSink<'_, S> {
             (S.written (answers_below self.new)) result piece.now }
         ensures cause { HasCause (S.faults (answers_below self.old))
             (S.faults (answers_below self.new)) result }
+
+        // It goes on keeping refusals, or not.
+        ensures keeps { keeps_refusals self.new ≡ keeps_refusals self.old }
     {
         if self.keeps {
             self.last.keep(piece);
