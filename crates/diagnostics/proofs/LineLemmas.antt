@@ -1,50 +1,24 @@
 -- Faults that are told one after the other.
-use Rattle.std.proofs.Common.{◌≡◌, ℕ, zero, suc, ◌+◌, ◌-◌, ◌<◌, ◌≤◌, List, [], ◌∷◌, ◌++◌, take, get_or, length, refl, sym, ap, subst, ◌∙◌, add-one, arith}
+use Rattle.std.proofs.Common.{◌≡◌, ℕ, zero, suc, ◌+◌, ◌-◌, ◌<◌, ◌≤◌, List, [], ◌∷◌, ◌++◌, take, get_or, length, refl, sym, ap, subst, ◌∙◌, add-one, append_assoc, arith}
 use Rattle.std.specs.List.{AllZip}
 use Rattle.std.proofs.lemmas.List.{append-nil, take_all}
 use Rattle.std.proofs.lemmas.Grind.{flat_map-append}
+use Rattle.std.proofs.lemmas.Slice.Zip.{all_zipped_more}
 use Rattle.std.proofs.Math.Seq.{take-suc}
 use Rattle.diagnostics.specs.FaultLines.{TellsEach, lines_with, more_line, most_told}
-use Rattle.diagnostics.specs.private.LineViews.{TellsAll}
+use Rattle.diagnostics.specs.private.LineViews.{TellsAll, AddsLines}
 
 -- one line more
-lines_more : (before : List (List ℕ)) (words old new : List ℕ) → old ≡ lines_with before → new ≡ old ++ (words ++ 10 ∷ []) → new ≡ lines_with (before ++ words ∷ [])
-lines_more before words old new is more =
-    more ∙ ap (λ t. t ++ (words ++ 10 ∷ [])) is
-    ∙ sym (flat_map-append (λ w. w ++ 10 ∷ []) before (words ∷ []) ∙ ap (λ t. lines_with before ++ t) (append-nil (words ++ 10 ∷ [])))
-
-module _ {A : Type 0} (Says : A → List ℕ → Type 0) where
-  zip_more : (faults : List A) (words : List (List ℕ)) (fault : A) (own : List ℕ) → AllZip Says faults words → Says fault own →
-      AllZip Says (faults ++ fault ∷ []) (words ++ own ∷ [])
-  zip_more [] [] fault own h says = (says, tt)
-  zip_more [] (w ∷ ws) fault own h says = absurd h
-  zip_more (f ∷ fs) [] fault own h says = absurd h
-  zip_more (f ∷ fs) (w ∷ ws) fault own h says = (h.0, zip_more fs ws fault own h.1 says)
-
-  pub told_none : (text : List ℕ) → text ≡ [] → TellsAll Says [] text
-  told_none text is = record { words = []; says = tt; is = is }
-
-  pub told_more : (faults : List A) (fault : A) (old new own : List ℕ) → TellsAll Says faults old → Says fault own →
-      new ≡ old ++ (own ++ 10 ∷ []) → TellsAll Says (faults ++ fault ∷ []) new
-  told_more faults fault old new own h says line = record {
-    words = h.words ++ own ∷ [];
-    says = zip_more faults h.words fault own h.says says;
-    is = lines_more h.words own old new h.is line;
-  }
-
-  pub told_each : (faults told : List A) (old new : List ℕ) (more : ℕ) → told ≡ take most_told faults → more ≡ length faults - most_told →
-      TellsAll Says told old → new ≡ old ++ more_line more → TellsEach Says faults new
-  told_each faults told old new more first rest h line = record {
-    words = h.words;
-    says = subst (λ fs. AllZip Says fs h.words) first h.says;
-    is = line ∙ ap (λ t. t ++ more_line more) h.is ∙ ap (λ n. lines_with h.words ++ more_line n) rest;
-  }
+lines_more : (words : List (List ℕ)) (own before old new : List ℕ) → old ≡ before ++ lines_with words → new ≡ old ++ (own ++ 10 ∷ [])
+    → new ≡ before ++ lines_with (words ++ own ∷ [])
+lines_more words own before old new is more =
+    more ∙ ap (λ t. t ++ (own ++ 10 ∷ [])) is ∙ append_assoc before (lines_with words) (own ++ 10 ∷ [])
+    ∙ ap (λ t. before ++ t)
+    (sym (flat_map-append (λ w. w ++ 10 ∷ []) words (own ∷ []) ∙ ap (λ t. lines_with words ++ t) (append-nil (own ++ 10 ∷ []))))
 
 -- the elements up to a place, and the one there
 pub up_to : {A : Type 0} (xs : List A) (i : ℕ) (x : A) → i < length xs → x ≡ get_or xs i x → take i xs ++ x ∷ [] ≡ take (i + 1) xs
 up_to xs i x l is = sym (rw (add-one, take-suc xs i x l, ← is) refl)
-
--- ---- the first of some faults, and how many more there are
 
 rest_is : {A : Type 0} (xs : List A) (m : ℕ) → length xs - length (take m xs) ≡ length xs - m
 rest_is [] zero = refl
@@ -52,24 +26,58 @@ rest_is [] (suc m) = omega arith
 rest_is (x ∷ xs) zero = refl
 rest_is (x ∷ xs) (suc m) = let h = rest_is xs m in omega (arith, h)
 
-first_take : {A : Type 0} (x : A) (xs : List A) (m n : ℕ) → n ≡ suc m → take n (x ∷ xs) ≡ x ∷ take m xs
-first_take x xs m n e = ap (λ k. take k (x ∷ xs)) e
-
+-- a first one that is told is one of the most
 less_one : (n : ℕ) → n - 19 ≡ suc n - 20
 less_one n = omega arith
 
-module _ {A : Type 0} (Says : A → List ℕ → Type 0) where
-  -- where all that are to be told are told
-  pub all_told : (faults told : List A) (at more : ℕ) (old new : List ℕ) → told ≡ take 20 faults → length told ≤ at → more ≡ length faults - length told →
-      TellsAll Says (take at told) old → new ≡ old ++ more_line more → TellsEach Says faults new
-  all_told faults told at more old new is past rest h line =
-      told_each Says faults told old new more is (rest ∙ ap (λ t. length faults - length t) is ∙ rest_is faults 20)
-      (subst (λ fs. TellsAll Says fs old) (take_all at told past) h) line
+zip_weaker : {A : Type 0} (P Q : A → List ℕ → Type 0) → ((fault : A) (words : List ℕ) → P fault words → Q fault words)
+    → (faults : List A) (words : List (List ℕ)) → AllZip P faults words → AllZip Q faults words
+zip_weaker P Q more [] [] h = tt
+zip_weaker P Q more [] (w ∷ ws) h = absurd h
+zip_weaker P Q more (f ∷ fs) [] h = absurd h
+zip_weaker P Q more (f ∷ fs) (w ∷ ws) h = (more f w h.0, zip_weaker P Q more fs ws h.1)
 
-  -- the same behind a first one
-  pub first_told : (first : A) (further told : List A) (at more : ℕ) (old new : List ℕ) → told ≡ take 19 further → length told ≤ at → more ≡ length further - length told →
-      TellsAll Says (first ∷ take at told) old → new ≡ old ++ more_line more → TellsEach Says (first ∷ further) new
-  first_told first further told at more old new is past rest h line =
-      let left = rest ∙ ap (λ t. length further - length t) is ∙ rest_is further 19 in
-      told_each Says (first ∷ further) (first ∷ told) old new more (ap (λ l. first ∷ l) is ∙ sym (first_take first further 19 20 (omega arith))) (left ∙ less_one (length further))
-      (subst (λ fs. TellsAll Says (first ∷ fs) old) (take_all at told past) h) line
+module _ {A : Type 0} (Says : A → List ℕ → Type 0) where
+  pub told_none : (before : List ℕ) → TellsAll Says [] before before
+  told_none before = record { words = []; says = tt; is = sym (append-nil before) }
+
+  pub told_more : (told : List A) (at : ℕ) (fault : A) (own before old new : List ℕ) → at < length told → fault ≡ get_or told at fault
+      → TellsAll Says (take at told) before old → Says fault own → new ≡ old ++ (own ++ 10 ∷ []) → TellsAll Says (take (at + 1) told) before new
+  told_more told at fault own before old new less is h says line =
+      subst (λ fs. TellsAll Says fs before new) (up_to told at fault less is) (record {
+        words = h.words ++ own ∷ [];
+        says = all_zipped_more Says (take at told) h.words fault own h.says says;
+        is = lines_more h.words own before old new h.is line;
+      })
+
+  -- where all that are to be told are told
+  pub all_told : (faults told : List A) (most at more : ℕ) (before old new : List ℕ) → told ≡ take most faults → length told ≤ at
+      → more ≡ length faults - length told → TellsAll Says (take at told) before old → new ≡ old ++ more_line more → AddsLines Says most faults before new
+  all_told faults told most at more before old new first past rest h line = record {
+    words = h.words;
+    says = subst (λ fs. AllZip Says fs h.words) (take_all at told past ∙ first) h.says;
+    is =
+        line ∙ ap (λ t. t ++ more_line more) h.is ∙ append_assoc before (lines_with h.words) (more_line more)
+        ∙ ap (λ n. before ++ (lines_with h.words ++ more_line n)) (rest ∙ ap (λ t. length faults - length t) first ∙ rest_is faults most);
+  }
+
+module _ {A : Type 0} (Gives Says : A → List ℕ → Type 0) (say : (fault : A) (words : List ℕ) → Gives fault words → Says fault words) where
+  -- the lines of an empty text are those of all
+  pub adds_each : (faults : List A) (old new : List ℕ) → old ≡ [] → AddsLines Gives most_told faults old new → TellsEach Says faults new
+  adds_each faults old new none h = record {
+    words = h.words;
+    says = zip_weaker Gives Says say (take most_told faults) h.words h.says;
+    is = h.is ∙ ap (λ t. t ++ (lines_with h.words ++ more_line (length faults - most_told))) none;
+  }
+
+  -- the same behind the line of a first one
+  pub adds_behind : (first : A) (further : List A) (own old new : List ℕ) → Says first own → old ≡ own ++ 10 ∷ [] → AddsLines Gives 19 further old new
+      → TellsEach Says (first ∷ further) new
+  adds_behind first further own old new says line h = record {
+    words = own ∷ h.words;
+    says = (says, zip_weaker Gives Says say (take 19 further) h.words h.says);
+    is =
+        h.is ∙ ap (λ t. t ++ (lines_with h.words ++ more_line (length further - 19))) line
+        ∙ sym (append_assoc (own ++ 10 ∷ []) (lines_with h.words) (more_line (length further - 19)))
+        ∙ ap (λ n. lines_with (own ∷ h.words) ++ more_line n) (less_one (length further));
+  }

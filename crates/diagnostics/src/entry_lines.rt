@@ -4,13 +4,12 @@ ghost use Rattle.std.specs.String.{string_bytes};
 ghost use Rattle.toml.specs.View.{table_view};
 ghost use Rattle.limits_file.specs.RangeFiles.{IsToml};
 ghost use Rattle.plain_words.specs.Places.{files_of};
-ghost use Rattle.diagnostics.specs.FaultLines.{IsEntryLine, TellsEach};
 ghost use Rattle.diagnostics.specs.FurtherFaults.{TellsEntryFaults};
 ghost use Rattle.diagnostics.specs.private.StageViews.{HasTable};
 
-use crate::fault_lines::{MOST_TOLD, front, put_line, put_more};
+use crate::fault_lines::{MOST_TOLD, put_lines};
 use plain_words::{TextFile, entry_words};
-use range_faults::{EntryFault, file_faults, read_table};
+use range_faults::{file_faults, read_table};
 use std::alloc::{AllocError, Global};
 use toml::Table;
 
@@ -27,7 +26,11 @@ pub(crate) fn entry_lines(
 {
     let table = table_of(alloc, limits.bytes)?;
     let faults = file_faults(alloc, &table)?;
-    lines_of(alloc, plan, limits, &table, &faults)
+    let mut text = String::new(alloc);
+    put_lines(&mut text, &faults, MOST_TOLD, |fault| {
+        entry_words(alloc, plan, limits, &table, fault)
+    })?;
+    Ok(text)
 }
 
 /// The table of a range file that is TOML.
@@ -40,25 +43,4 @@ fn table_of(alloc: Global, limits: &[u8]) -> Result<Table, AllocError>
         Ok(None) => unreachable!(),
         Err(failed) => Err(failed),
     }
-}
-
-/// The words of the first 20 of some faults, and how many more there are.
-fn lines_of(
-    alloc: Global,
-    plan: TextFile<'_>,
-    limits: TextFile<'_>,
-    table: &Table,
-    faults: &[EntryFault],
-) -> Result<String, AllocError>
-    ensures { IfOk result (λ text. TellsEach (IsEntryLine (files_of plan.entry limits.entry))
-        faults.now (string_bytes text)) }
-{
-    let told = front(faults, MOST_TOLD);
-    let mut text = String::new(alloc);
-    for fault in told {
-        let words = entry_words(alloc, plan, limits, table, fault)?;
-        put_line(&mut text, &words)?;
-    }
-    put_more(&mut text, faults.len() - told.len())?;
-    Ok(text)
 }

@@ -3,6 +3,7 @@ ghost use Rattle.std.specs.Prelude.{◌≡◌, ◌∷◌, ◌++◌, ◌≤◌, [
 ghost use Rattle.std.specs.String.{string_bytes};
 ghost use Rattle.plain_words.specs.Places.{files_of};
 ghost use Rattle.diagnostics.specs.FaultLines.{IsPlanLine, IsStateLine, TellsEach, lines_with, more_line};
+ghost use Rattle.diagnostics.specs.private.LineViews.{AddsLines, GivesWords};
 
 use pap_plan::PlanRefusal;
 use plain_words::{RunReason, TextFile, plan_words, state_words};
@@ -26,12 +27,9 @@ pub fn plan_lines(
     let mut text = String::new(alloc);
     let first = plan_words(alloc, plan, limits, refusal)?;
     put_line(&mut text, &first)?;
-    let told = front(further, MOST_TOLD - 1);
-    for fault in told {
-        let words = plan_words(alloc, plan, limits, fault)?;
-        put_line(&mut text, &words)?;
-    }
-    put_more(&mut text, further.len() - told.len())?;
+    put_lines(&mut text, further, MOST_TOLD - 1, |fault| {
+        plan_words(alloc, plan, limits, fault)
+    })?;
     Ok(text)
 }
 
@@ -46,18 +44,34 @@ pub fn state_lines(
     ensures { IfOk result (λ text. TellsEach (IsStateLine (files_of plan.entry limits.entry))
         reasons.now (string_bytes text)) }
 {
-    let told = front(reasons, MOST_TOLD);
     let mut text = String::new(alloc);
-    for reason in told {
-        let words = state_words(alloc, plan, limits, reason)?;
-        put_line(&mut text, &words)?;
-    }
-    put_more(&mut text, reasons.len() - told.len())?;
+    put_lines(&mut text, reasons, MOST_TOLD, |reason| {
+        state_words(alloc, plan, limits, reason)
+    })?;
     Ok(text)
 }
 
+/// Appends the words of the first of some faults, at most so many, each as a line, and then how many more there are.
+pub(crate) fn put_lines<T, F: Fn(&T) -> Result<String, AllocError>>(
+    text: &mut String,
+    faults: &[T],
+    most: usize,
+    words_of: F,
+) -> Result<(), AllocError>
+    requires { F.IsAlwaysCallable words_of }
+    ensures { OnOk result (AddsLines (GivesWords F.Fn words_of) most faults.now
+        (string_bytes text.old) (string_bytes text.new)) }
+{
+    let told = front(faults, most);
+    for fault in told {
+        let words = words_of(fault)?;
+        put_line(text, &words)?;
+    }
+    put_more(text, faults.len() - told.len())
+}
+
 /// The first of some faults, at most so many.
-pub(crate) fn front<T>(faults: &[T], most: usize) -> &[T]
+fn front<T>(faults: &[T], most: usize) -> &[T]
     ensures first { result.now ≡ take most faults.now }
     ensures fewer { length result.now ≤ length faults.now }
 {
@@ -69,7 +83,7 @@ pub(crate) fn front<T>(faults: &[T], most: usize) -> &[T]
 }
 
 /// Appends words as a line.
-pub(crate) fn put_line(text: &mut String, words: &str) -> Result<(), AllocError>
+fn put_line(text: &mut String, words: &str) -> Result<(), AllocError>
     ensures { OnOk result
         (string_bytes text.new ≡ string_bytes text.old ++ (words.now ++ 10 ∷ [])) }
 {
@@ -78,7 +92,7 @@ pub(crate) fn put_line(text: &mut String, words: &str) -> Result<(), AllocError>
 }
 
 /// Appends how many faults aren't told, where there are any.
-pub(crate) fn put_more(text: &mut String, more: usize) -> Result<(), AllocError>
+fn put_more(text: &mut String, more: usize) -> Result<(), AllocError>
     ensures { OnOk result (string_bytes text.new ≡ string_bytes text.old ++ more_line more) }
 {
     if more == 0 {

@@ -1,35 +1,12 @@
-use Rattle.std.proofs.Common.{[], ◌∷◌, ◌++◌, ◌∙◌, take, refl, ap, subst, string_bytes, arith}
+use Rattle.std.proofs.Common.{◌++◌, ◌∙◌, ap, rules, string_bytes}
 use Rattle.plain_words.specs.Places.{files_of}
 use Rattle.diagnostics.specs.FaultLines.{IsPlanLine}
-use Rattle.diagnostics.specs.private.LineViews.{TellsAll}
-use Rattle.diagnostics.proofs.LineLemmas.{told_none, told_more, first_told, up_to}
+use Rattle.diagnostics.proofs.LineLemmas.{adds_behind}
 use Rattle.diagnostics.proofs.fault_lines.plan_lines.Goals as goal
-
-pub loop-fault-init : goal.loop-fault-init
-loop-fault-init c =
-    let Says = IsPlanLine (files_of c.args.plan c.args.limits) in
-    let first = string_bytes c.in_ok-first.first in
-    let old = string_bytes c.new-text.result in
-    told_more Says [] c.args.refusal.now old (string_bytes c.put_line.new.text) first (told_none Says old c.new-text.ensures.bytes)
-    (record { line = c.in_ok-first.ensures.line; begins = c.in_ok-first.ensures.place })
-    (c.in_ok-put_line.ensures ∙ ap (λ w. old ++ (w ++ 10 ∷ [])) c.deref.ensures)
-
-pub loop-fault-preserved : goal.loop-fault-preserved
-loop-fault-preserved c =
-    let Says = IsPlanLine (files_of c.args.plan c.args.limits) in
-    let l = c.loop-fault in
-    let told = c.front-told.result.now in
-    let fault = c.fault-item.result in
-    let old = string_bytes l.text in
-    let new = string_bytes c.put_line-in-loop-fault.new.text in
-    let whole = told_more Says (c.args.refusal.now ∷ take l.fault-index told) fault old new (string_bytes c.in_ok-words.words) l.invariant
-    (record { line = c.in_ok-words.ensures.line; begins = c.in_ok-words.ensures.place })
-    (c.in_ok-put_line-2.ensures ∙ ap (λ w. old ++ (w ++ 10 ∷ [])) c.deref-in-loop-fault.ensures) in
-    subst (λ fs. TellsAll Says (c.args.refusal.now ∷ fs) new) (up_to told l.fault-index fault c.loop-fault-test.true c.fault-item.is) whole
 
 pub returns : goal.returns
 returns c =
-    let Says = IsPlanLine (files_of c.args.plan c.args.limits) in
-    let l = c.loop-fault in
-    first_told Says c.args.refusal.now c.args.further.now c.front-told.result.now l.fault-index _ (string_bytes l.text) (string_bytes c.put_more.new.text)
-    c.front-told.ensures.first (omega (arith, c.loop-fault-test.false)) refl l.invariant c.in_ok-put_more.ensures
+    adds_behind _ (IsPlanLine (files_of c.args.plan c.args.limits)) (λ refusal words h. search rules) c.args.refusal.now c.args.further.now (string_bytes c.in_ok-first.first)
+    (string_bytes c.put_line.new.text) (string_bytes c.put_lines.new.text)
+    (record { line = c.in_ok-first.ensures.line; begins = c.in_ok-first.ensures.place })
+    (c.in_ok-put_line.ensures ∙ search rules) c.in_ok-put_lines.ensures
