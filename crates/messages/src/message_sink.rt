@@ -91,7 +91,8 @@ impl<'a, S: Sink + Drop> MessageSink<'a, S> {
     fn put_objects(&mut self, lines: &[u8]) -> Result<(), Failed>
         ensures form { message_form self.new ≡ message_form self.old }
         ensures files { message_files self.new ≡ message_files self.old }
-        ensures cause { HasCause (message_faults S.Sink self.old) (message_faults S.Sink self.new) result }
+        ensures cause { HasCause (message_faults S.Sink self.old)
+            (message_faults S.Sink self.new) result }
         ensures objects { OnOk result (PutsObjects (message_files self.old) lines.now
             (S.written (sink_below self.old)) (S.written (sink_below self.new))) }
     {
@@ -114,7 +115,8 @@ impl<S: Sink + Drop> Sink for MessageSink<'_, S> {
         requires { 0 < length piece.now }
         ensures some { IfOk result (λ count. 0 < count) }
         ensures short { IfOk result (λ count. count ≤ length piece.now) }
-        ensures cause { HasCause (message_faults S.Sink self.old) (message_faults S.Sink self.new) result }
+        ensures cause { HasCause (message_faults S.Sink self.old)
+            (message_faults S.Sink self.new) result }
 
         // As words a piece goes out as it is, as JSON in whole objects.
         ensures form { message_form self.new ≡ message_form self.old }
