@@ -1,4 +1,4 @@
-use Rattle.std.proofs.Common.{subst}
+use Rattle.std.proofs.Common.{refl, subst}
 use Rattle.plain_words.specs.EntryPlaces.{HasWord, line_from}
 use Rattle.plain_words.proofs.WordLemmas.{ends_trans, has_trans}
 use Rattle.plain_words.proofs.entry_lines.section_byte.Goals as goal
@@ -10,5 +10,5 @@ returns-then-begins_with_key c =
     let text = c.without-text.result.now in
     let ends = ends_trans line shown text c.line_at-line.ensures
     (ends_trans shown c.without-heading.result.now text c.without-heading.ensures c.without-text.ensures) in
-    let has = has_trans line text c.as_bytes-key.result.now ends (c.if-begins_with_key.ensures tt) in
-    record { starts = c.if-begins_line.ensures tt; has = subst (HasWord line) c.as_bytes-key.ensures.value has }
+    let has = has_trans line text c.as_bytes-key.result.now ends (c.if-begins_with_key.ensures refl) in
+    record { starts = c.if-begins_line.ensures refl; has = subst (HasWord line) c.as_bytes-key.ensures.value has }
