@@ -19,7 +19,7 @@ use Rattle.pap_reader.specs.Elements.{IsElements, IsFault, IsFaultOrMemory}
 use Rattle.flowchart_methods.specs.declared.site.Site.{Site}
 use Rattle.flowchart_methods.specs.declared.site.Site.TheVariants.{Nowhere}
 use Rattle.flowchart_methods.specs.Turns.{StandInTurn, AddsInTurn}
-use Rattle.flowchart_methods.specs.Sites.{NamedStatement, named_statement}
+use Rattle.flowchart_methods.specs.Sites.{named_statement}
 use Rattle.flowchart_methods.specs.Captions.{AreCaptions, methods_of}
 use Rattle.flowchart_methods.proofs.Laws.{turn-before, turn-behind, adds_none, adds_before, adds_behind, adds_then}
 use Rattle.flowchart_page.specs.Findings.{Finding, IsFound, marked}

@@ -1,6 +1,6 @@
 -- The table of declarations, row by row.
-use Rattle.std.proofs.Common.{◌≡◌, ◌≢◌, inr, ℕ, suc, Bool, true, false, ◌+◌, ◌<◌, ◌≤◌, Option, List, [], ◌∷◌, ◌++◌, length, take, map, get_or, refl, sym, ap, subst, ◌∙◌, append_assoc, length-append, arith, codes, Global}
-use Rattle.std.specs.Prelude.{String, ◌==◌, if◌then◌else◌, unwrap_or}
+use Rattle.std.proofs.Common.{◌≡◌, ◌≢◌, inr, ℕ, suc, Bool, false, ◌+◌, ◌<◌, ◌≤◌, List, [], ◌∷◌, ◌++◌, length, take, map, get_or, refl, sym, ap, subst, ◌∙◌, append_assoc, arith, codes, Global}
+use Rattle.std.specs.Prelude.{String, ◌==◌, unwrap_or}
 use Rattle.std.proofs.lemmas.List.{append-nil, map_push, take_more, take_all, length-map, length-take-le}
 use Rattle.scaled_decimal.specs.Decimals.{Decimal}
 use Rattle.pap_tree.specs.Grammar.{Constant as Literals}
@@ -20,7 +20,7 @@ use Rattle.flowchart_markup.specs.Escapes.{escaped}
 use Rattle.flowchart_methods.specs.Comments.{comments_text}
 use Rattle.flowchart_methods.specs.Turns.{AddsInTurn}
 use Rattle.flowchart_methods.proofs.Laws.{adds_none, adds_before, adds_behind, adds_then}
-use Rattle.flowchart_page.specs.Declarations.{value_cells, table_item_text, table_items_text, comments_above, items_cell, row_start, IsRow, is_named, range_shown, TableSource, IsRowIn, AreRows, group_heading, IsGroup, IsDeclarationTable}
+use Rattle.flowchart_page.specs.Declarations.{value_cells, table_item_text, table_items_text, comments_above, items_cell, row_start, is_named, range_shown, TableSource, IsRowIn, AreRows, group_heading, IsGroup}
 use Rattle.flowchart_page.specs.private.TableViews.{AddsCells, AddsRow, AddsNamed, AddsRows, AddsGroup, AddsTable}
 
 -- HTML that is none of the texts

@@ -270,7 +270,7 @@ fn write_chart(
 }
 
 /// The same of a plan whose tokens are read.
-#[tactic(auto, using(crate::proofs::PageLemmas::read_page, crate::proofs::PageLemmas::unread_page))]
+#[tactic(auto, using(crate::proofs::PageLemmas::read_page))]
 fn page_of_tokens(
     alloc: Global,
     plan: TextFile<'_>,

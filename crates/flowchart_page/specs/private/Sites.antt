@@ -2,13 +2,7 @@
 use Rattle.std.specs.Prelude.{ℕ, Bool, ◌||◌, if◌then◌else◌, List, ◌∷◌, codes, map}
 use Rattle.pap_reader.specs.Trees.{RawDeclaration, ElementTree}
 use Rattle.pap_types.specs.Checks.{has_name}
-use Rattle.pap_types.specs.declared.fault.TypeFault.TheVariants as types
-use Rattle.call_order.specs.declared.fault.OrderFault.TheVariants as orders
-use Rattle.limits_file.specs.declared.fault.LimitsFault.TheVariants as ranges
-use Rattle.interval_analysis.specs.declared.fault.RangeFault.TheVariants as walks
-use Rattle.plan_text.specs.declared.fault.Spot.TheVariants as spots
 use Rattle.pap_plan.specs.declared.refusal.PlanRefusal.{PlanRefusal}
-use Rattle.pap_plan.specs.declared.refusal.PlanRefusal.TheVariants as refusals
 use Rattle.flowchart_methods.specs.declared.site.Site.{Site}
 use Rattle.flowchart_methods.specs.declared.site.Site.TheVariants.{Method, Declared, Nowhere}
 use Rattle.flowchart_page.specs.Sites.{named_by}

@@ -1,8 +1,7 @@
-use Rattle.std.proofs.Common.{◌≢◌, ◌++◌, [], ap, ◌∙◌, rules}
+use Rattle.std.proofs.Common.{◌≢◌, [], ◌∙◌, rules}
 use Rattle.std.specs.Prelude.{unwrap_or}
 use Rattle.pap_expr.specs.declared.fault.ExprFault.TheVariants as faults
 use Rattle.pap_reader.specs.Trees.{items_of}
-use Rattle.flowchart_page.specs.Declarations.{value_cells}
 use Rattle.flowchart_page.proofs.TableLemmas.{wrong_cells}
 use Rattle.flowchart_page.proofs.declarations.write_value.Goals as goal
 
